@@ -1,0 +1,17 @@
+-- Numbers of plain texts: decimal digits, or 0x and hexadecimal digits of either case; leading zeros are allowed.
+use Rattle.std.specs.Prelude.{ℕ, ◌+◌, ◌*◌, ◌&&◌, nat_eq, List, drop, codes, fold, Option, Some, None, if◌then◌else◌}
+use Rattle.std.specs.Char.{is_digit, digit_value}
+use Rattle.std.specs.List.{list_all, starts_with}
+use Rattle.ap_text.specs.Lines.{is_token}
+
+-- the value of digits in this base, the highest first
+abbrev pub value_in : ℕ → List ℕ → ℕ
+value_in base digits = fold (λ value digit. value * base + digit_value digit) 0 digits
+
+-- the value of one or more digits of this base, and nothing where the token is something else
+abbrev pub digits_in : ℕ → List ℕ → Option ℕ
+digits_in base token = if is_token token && list_all (λ b. is_digit b base) token then Some (value_in base token) else None
+
+-- the value that a token spells, and nothing where it isn't of the form of numbers
+abbrev pub spelled_value : List ℕ → Option ℕ
+spelled_value token = if starts_with nat_eq token (codes "0x") then digits_in 16 (drop 2 token) else digits_in 10 token
