@@ -1,0 +1,130 @@
+use Rattle.std.proofs.Common.{◌≡◌, ℕ, ◌+◌, ◌<◌, ◌≤◌, suc, zero, max, List, [], ◌∷◌, ◌++◌, length, Some, Bool, true, false, refl, sym, ap, subst, ◌∙◌, arith, eq-eqb, append-nil, append_assoc, length-append}
+use Rattle.std.specs.Prelude.{slice_get, ◌==◌, if◌then◌else◌}
+use Rattle.std.specs.Bool.{Decides}
+use Rattle.std.proofs.lemmas.Bool.Decides.{Decides-eqb}
+use Rattle.std.specs.List.{AllByRecursion as Each}
+use Rattle.ap_net.specs.declared.cell.Wire.{Wire}
+use Rattle.ap_net.specs.declared.cell.Cell.{Cell}
+use Rattle.ap_net.specs.declared.net.FlatNet.{FlatNet}
+use Rattle.ap_net.specs.declared.net.Assign.{Assign}
+use Rattle.ap_net.specs.declared.net.Next.{Next}
+use Rattle.ap_net.specs.Cells.{operands, IsNet, CellFits, cell_value}
+use Rattle.ap_net.specs.Wiring.{Holds, Ranked, IsWired, Settles}
+use Rattle.ap_net.specs.Draft.{Draft, Begins, Extends, RanksOn, Adds, SettlesDraft}
+use Rattle.ap_net.proofs.Lists.{All-join, All-front, All-back, All-from, All-both, get_left}
+use Rattle.ap_net.proofs.Wired.{width_stays, number-IsNet, operands-CellFits, declared, IsNet-more, CellFits-more}
+
+Begins-trans : {X : Type 0} (xs ys zs : List X) → Begins xs ys → Begins ys zs → Begins xs zs
+Begins-trans xs ys zs p q = (p.0 ++ q.0, q.1 ∙ ap (λ l. l ++ q.0) p.1 ∙ append_assoc xs p.0 q.0)
+
+pub Extends-refl : (a : Draft) → Extends a a
+Extends-refl a = record { name = refl; nets = ([], sym (append-nil a.nets)); assigns = ([], sym (append-nil a.assigns)); nexts = ([], sym (append-nil a.nexts)) }
+
+pub Extends-trans : (a b c : Draft) → Extends a b → Extends b c → Extends a c
+Extends-trans a b c p q = record {
+  name = q.name ∙ p.name;
+  nets = Begins-trans a.nets b.nets c.nets p.nets q.nets;
+  assigns = Begins-trans a.assigns b.assigns c.assigns p.assigns q.assigns;
+  nexts = Begins-trans a.nexts b.nexts c.nexts p.nexts q.nexts;
+}
+
+longer : (a b : Draft) → Extends a b → length a.nets ≤ length b.nets
+longer a b e = let l : length b.nets ≡ length (a.nets ++ e.nets.0) = ap length e.nets.1 in omega (arith, length-append a.nets e.nets.0)
+
+pub Adds-refl : (a : Draft) → Adds a a
+Adds-refl a = record { extends = Extends-refl a; nexts = refl; order = λ rank h. record { after = rank; agrees = λ n lt. refl; ranked = h } }
+
+pub Adds-trans : (a b c : Draft) → Adds a b → Adds b c → Adds a c
+Adds-trans a b c p q = record {
+  extends = Extends-trans a b c p.extends q.extends;
+  nexts = q.nexts ∙ p.nexts;
+  order = λ rank h.
+      let one : RanksOn a b rank = p.order rank h in
+      let two : RanksOn b c one.after = q.order one.after one.ranked in
+      let le = longer a b p.extends in
+      record { after = two.after; agrees = λ n lt. two.agrees n (omega arith) ∙ one.agrees n lt; ranked = two.ranked };
+}
+
+pub IsNet-Adds : (a b : Draft) (w : Wire) → Adds a b → IsNet a.nets w → IsNet b.nets w
+IsNet-Adds a b w e h = rw e.extends.nets.1 (IsNet-more a.nets e.extends.nets.0 w h)
+
+pub CellFits-Adds : (a b : Draft) (w : ℕ) (c : Cell) → Adds a b → CellFits a.nets w c → CellFits b.nets w c
+CellFits-Adds a b w c e h = rw e.extends.nets.1 (CellFits-more a.nets e.extends.nets.0 w c h)
+
+-- a declared net stays as it is
+pub net-Adds : (a b : Draft) (n : ℕ) (net : FlatNet) → Adds a b → slice_get a.nets n ≡ Some net → slice_get b.nets n ≡ Some net
+net-Adds a b n net e h = rw e.extends.nets.1 (get_left a.nets e.extends.nets.0 n net h)
+
+-- what settles the larger draft settles the smaller one
+pub Settles-before : (a b : Draft) (read : ℕ → ℕ) → Extends a b → SettlesDraft b read → SettlesDraft a read
+Settles-before a b read e s = record {
+  fits = λ n w h. s.fits n w (rw e.nets.1 (width_stays a.nets e.nets.0 n w h));
+  holds = All-front (Holds read) a.assigns e.assigns.0 (subst (Each (Holds read)) e.assigns.1 s.holds);
+}
+
+-- to declare a net adds a piece of circuit
+pub Adds-declare : (a : Draft) (net : FlatNet) → Adds a (record a { nets = a.nets ++ net ∷ [] })
+Adds-declare a net = record {
+  extends = record { name = refl; nets = (net ∷ [], refl); assigns = ([], sym (append-nil a.assigns)); nexts = ([], sym (append-nil a.nexts)) };
+  nexts = refl;
+  order = λ rank h. record { after = rank; agrees = λ n lt. refl; ranked = h };
+}
+
+-- a new net that is driven by a cell over nets that were there
+abbrev pub made : Draft → FlatNet → Cell → Draft
+made a net c = record a { nets = a.nets ++ net ∷ []; assigns = a.assigns ++ record { to = record { number = length a.nets; width = net.width }; cell = c } ∷ [] }
+
+-- the highest rank of some nets
+abbrev top : (ℕ → ℕ) → List Wire → ℕ
+top rank [] = 0
+top rank (o ∷ os) = max (rank o.number) (top rank os)
+
+top-above : (rank : ℕ → ℕ) (os : List Wire) (n : ℕ) → top rank os ≤ n → Each (λ (o : Wire). rank o.number ≤ n) os
+top-above rank [] n h = tt
+top-above rank (o ∷ os) n h = (omega arith, top-above rank os n (omega arith))
+
+is_false : (b : Bool) (P : Type 0) → Decides b P → (P → ⊥) → b ≡ false
+is_false true P d p = absurd (p (d.0 refl))
+is_false false P d p = refl
+
+at_end : (m k r : ℕ) → (if m == m then k else r) ≡ k
+at_end m k r = rw (eq-eqb m m refl) refl
+
+before_end : (i m k r : ℕ) → i < m → (if i == m then k else r) ≡ r
+before_end i m k r lt = rw (is_false (i == m) (i ≡ m) (Decides-eqb i m) (λ e. absurd (omega arith))) refl
+
+made-order : (a : Draft) (net : FlatNet) (c : Cell) → IsWired a.nets a.assigns a.nexts → CellFits a.nets net.width c → (rank : ℕ → ℕ) → Ranked rank a.assigns → RanksOn a (made a net c) rank
+made-order a net c d fits rank ranked =
+    let m : ℕ = length a.nets in
+    let k : ℕ = top rank (operands c) in
+    let after : ℕ → ℕ = λ i. if i == m then k + 1 else rank i in
+    let agrees : (i : ℕ) → i < m → after i ≡ rank i = λ i lt. before_end i m (k + 1) (rank i) lt in
+    let last : after m ≡ k + 1 = at_end m (k + 1) (rank m) in
+    let below : (o : Wire) → IsNet a.nets o → rank o.number ≤ k → after o.number < after m = λ o here le. let e : after o.number ≡ rank o.number = agrees o.number (number-IsNet a.nets o here) in rw (e, last) (omega arith) in
+    record {
+      after = after;
+      agrees = agrees;
+      ranked = All-join (λ (y : Assign). Each (λ (o : Wire). after o.number < after y.to.number) (operands y.cell)) a.assigns (record { to = record { number = m; width = net.width }; cell = c } ∷ [])
+          (All-both (λ (y : Assign). IsNet a.nets y.to × Each (IsNet a.nets) (operands y.cell)) (λ (y : Assign). Each (λ (o : Wire). rank o.number < rank y.to.number) (operands y.cell)) (λ (y : Assign). Each (λ (o : Wire). after o.number < after y.to.number) (operands y.cell))
+          (λ y nets lower. All-both (IsNet a.nets) (λ (o : Wire). rank o.number < rank y.to.number) (λ (o : Wire). after o.number < after y.to.number)
+          (λ o here lt. let e : after o.number ≡ rank o.number = agrees o.number (number-IsNet a.nets o here) in let f : after y.to.number ≡ rank y.to.number = agrees y.to.number (number-IsNet a.nets y.to nets.0) in rw (e, f) lt)
+          (operands y.cell) nets.1 lower)
+          a.assigns
+          (All-both (λ (y : Assign). IsNet a.nets y.to) (λ (y : Assign). Each (IsNet a.nets) (operands y.cell)) (λ (y : Assign). IsNet a.nets y.to × Each (IsNet a.nets) (operands y.cell)) (λ y p q. (p, q)) a.assigns d.results (declared a.nets a.assigns a.nexts d))
+          ranked)
+          (All-both (IsNet a.nets) (λ (o : Wire). rank o.number ≤ k) (λ (o : Wire). after o.number < after m) below (operands c) (operands-CellFits a.nets net.width c fits) (top-above rank (operands c) k (omega arith)), tt);
+    }
+
+made-extends : (a : Draft) (net : FlatNet) (c : Cell) → Extends a (made a net c)
+made-extends a net c = record { name = refl; nets = (net ∷ [], refl); assigns = (record { to = record { number = length a.nets; width = net.width }; cell = c } ∷ [], refl); nexts = ([], sym (append-nil a.nexts)) }
+
+-- to make a net with a cell over declared nets adds a piece of circuit
+pub Adds-made : (a : Draft) (net : FlatNet) (c : Cell) → IsWired a.nets a.assigns a.nexts → CellFits a.nets net.width c → Adds a (made a net c)
+Adds-made a net c d fits = record { extends = made-extends a net c; nexts = refl; order = made-order a net c d fits }
+
+-- what settles a draft with a made net settles the draft before, and gives the net the cell's value
+pub Settles-made : (a : Draft) (net : FlatNet) (c : Cell) (read : ℕ → ℕ) → SettlesDraft (made a net c) read → SettlesDraft a read × (read (length a.nets) ≡ cell_value read net.width c)
+Settles-made a net c read s = (
+  Settles-before a (made a net c) read (made-extends a net c) s,
+  (All-back (Holds read) a.assigns (record { to = record { number = length a.nets; width = net.width }; cell = c } ∷ []) s.holds).0,
+)

@@ -1,0 +1,4 @@
+pub mod NameLemmas
+pub mod Lists
+pub mod Wired
+pub mod Drafts

@@ -1,0 +1,47 @@
+use Rattle.std.proofs.Common.{◌≡◌, ℕ, ◌+◌, ◌<◌, suc, zero, List, [], ◌∷◌, ◌++◌, length, map, Some, refl, arith}
+use Rattle.std.specs.Prelude.{slice_get}
+use Rattle.std.specs.List.{AllByRecursion as Each}
+
+-- what holds of each of two lists holds of each of both, and back
+pub All-join : {X : Type 0} (P : X → Type 0) (xs ys : List X) → Each P xs → Each P ys → Each P (xs ++ ys)
+All-join P [] ys h g = g
+All-join P (x ∷ xs) ys h g = (h.0, All-join P xs ys h.1 g)
+
+pub All-front : {X : Type 0} (P : X → Type 0) (xs ys : List X) → Each P (xs ++ ys) → Each P xs
+All-front P [] ys h = tt
+All-front P (x ∷ xs) ys h = (h.0, All-front P xs ys h.1)
+
+pub All-back : {X : Type 0} (P : X → Type 0) (xs ys : List X) → Each P (xs ++ ys) → Each P ys
+All-back P [] ys h = h
+All-back P (x ∷ xs) ys h = All-back P xs ys h.1
+
+pub All-from : {X : Type 0} (P Q : X → Type 0) → ((x : X) → P x → Q x) → (xs : List X) → Each P xs → Each Q xs
+All-from P Q f [] h = tt
+All-from P Q f (x ∷ xs) h = (f x h.0, All-from P Q f xs h.1)
+
+pub All-both : {X : Type 0} (P Q R : X → Type 0) → ((x : X) → P x → Q x → R x) → (xs : List X) → Each P xs → Each Q xs → Each R xs
+All-both P Q R f [] h g = tt
+All-both P Q R f (x ∷ xs) h g = (f x h.0 g.0, All-both P Q R f xs h.1 g.1)
+
+-- what holds at an index
+pub All-at : {X : Type 0} (P : X → Type 0) (xs : List X) (i : ℕ) (x : X) → Each P xs → slice_get xs i ≡ Some x → P x
+All-at P [] i x h e = cc
+All-at P (y ∷ xs) zero x h e = let same : y ≡ x = cc in rw (← same) h.0
+All-at P (y ∷ xs) (suc i) x h e = All-at P xs i x h.1 e
+
+pub same_left : {X : Type 0} (xs ys : List X) (i : ℕ) → i < length xs → slice_get (xs ++ ys) i ≡ slice_get xs i
+same_left [] ys i lt = absurd (omega arith)
+same_left (x ∷ xs) ys zero lt = refl
+same_left (x ∷ xs) ys (suc i) lt = same_left xs ys i (omega arith)
+
+pub get_left : {X : Type 0} (xs ys : List X) (i : ℕ) (x : X) → slice_get xs i ≡ Some x → slice_get (xs ++ ys) i ≡ Some x
+get_left [] ys i x h = cc
+get_left (y ∷ xs) ys zero x h = h
+get_left (y ∷ xs) ys (suc i) x h = get_left xs ys i x h
+
+pub get_end : {X : Type 0} (xs : List X) (x : X) → slice_get (xs ++ x ∷ []) (length xs) ≡ Some x
+get_end [] x = refl
+get_end (y ∷ xs) x = get_end xs x
+
+pub some_same : {X : Type 0} {x y : X} → Some x ≡ Some y → x ≡ y
+some_same e = cc

@@ -1,0 +1,40 @@
+use Rattle.std.proofs.Common.{refl, ap, ◌∙◌, ◌≡◌, ℕ, ◌<◌, ◌^◌, arith, sym}
+use Rattle.ap_net.specs.declared.cell.Wire.{Wire}
+use Rattle.ap_net.specs.Cells.{cell_value}
+use Rattle.ap_net.specs.Wiring.{IsWired, Settles}
+use Rattle.ap_net.specs.Draft.{Draft, wire_count, SettlesDraft}
+use Rattle.ap_net.proofs.Lists.{get_end}
+use Rattle.ap_net.proofs.Wired.{IsNet-end, CellFits-more, IsFree-end, Undriven-end}
+use Rattle.ap_net.proofs.Drafts.{Adds-made, Settles-made, made}
+use Rattle.ap_net.proofs.builder.Builder.make.Goals as goal
+
+pub fresh-requires-clause-name : goal.fresh-requires-clause-name
+fresh-requires-clause-name c =
+    let count : wire_count c.args.self.now.nets ≡ c.self.inside.wires = rw (← c.self.view_is) (sym c.self.invariant.2) in
+    let small : wire_count c.args.self.now.nets < 2 ^ 64 = omega arith in
+    c.requires.fresh.free _ (omega arith) small
+
+pub cell-requires-clause-net : goal.cell-requires-clause-net
+cell-requires-clause-net c = rw (c.in_ok-to.ensures.ok, c.in_ok-to.ensures.wire) (IsNet-end c.args.self.now.nets _)
+
+pub cell-requires-clause-fits : goal.cell-requires-clause-fits
+cell-requires-clause-fits c = rw (c.in_ok-to.ensures.ok, c.in_ok-to.ensures.wire) (CellFits-more c.args.self.now.nets _ c.args.width c.args.cell c.requires.fits)
+
+pub cell-requires-clause-free : goal.cell-requires-clause-free
+cell-requires-clause-free c = rw (c.in_ok-to.ensures.ok, c.in_ok-to.ensures.wire) (IsFree-end c.args.self.now.nets _ (λ s. s))
+
+pub cell-requires-clause-undriven : goal.cell-requires-clause-undriven
+cell-requires-clause-undriven c =
+    let wired : IsWired c.args.self.now.nets c.args.self.now.assigns c.args.self.now.nexts = rw (← c.self.view_is) c.self.invariant.1 in
+    rw (c.in_ok-to.ensures.ok, c.in_ok-to.ensures.wire) (Undriven-end c.args.self.now.nets c.args.self.now.assigns wired.results)
+
+pub returns-clause-net : goal.returns-clause-net
+returns-clause-net c = rw (c.in_ok-cell.ensures.ok, c.in_ok-to.ensures.ok, c.in_ok-to.ensures.wire) (IsNet-end c.args.self.now.nets _, refl)
+
+pub returns-clause-value : goal.returns-clause-value
+returns-clause-value c = rw (c.in_ok-cell.ensures.ok, c.in_ok-to.ensures.ok, c.in_ok-to.ensures.wire) (Settles-made c.args.self.now _ c.args.cell)
+
+pub returns-clause-adds : goal.returns-clause-adds
+returns-clause-adds c =
+    let wired : IsWired c.args.self.now.nets c.args.self.now.assigns c.args.self.now.nexts = rw (← c.self.view_is) c.self.invariant.1 in
+    rw (c.in_ok-cell.ensures.ok, c.in_ok-to.ensures.ok, c.in_ok-to.ensures.wire) (Adds-made c.args.self.now _ c.args.cell wired c.requires.fits)

@@ -1,0 +1,8 @@
+use Rattle.ap_net.proofs.Wired.{IsWired-next}
+use Rattle.ap_net.proofs.builder.Builder.next.Goals as goal
+
+pub invariant_of-self-2 : goal.invariant_of-self-2
+invariant_of-self-2 c =
+    let fits = rw (← c.self.view_is) at c.requires.fits in
+    let unclocked = rw (← c.self.view_is) at c.requires.unclocked in
+    rw c.in_ok-push.ensures.items (c.self.invariant.0, IsWired-next _ _ _ _ fits unclocked c.self.invariant.1, c.self.invariant.2)

@@ -1,0 +1,5 @@
+pub mod Names
+pub mod Cells
+pub mod Wiring
+pub mod Draft
+pub mod Modules

@@ -1,0 +1,129 @@
+-- Finished modules and netlists, as plain records; how a finished module comes from a draft; existence of a solution.
+use Rattle.std.specs.Prelude.{◌≡◌, ◌≢◌, ℕ, ◌+◌, ◌<◌, List, [], ◌∷◌, ◌++◌, length, map, filter_map, codes, slice_get, unwrap_or, Option, Some, None, Bool, true, false, if◌then◌else◌}
+use Rattle.std.specs.List.{AllByRecursion as Each}
+use Rattle.ap_net.specs.declared.cell.Wire.{Wire}
+use Rattle.ap_net.specs.declared.cell.Cell.{Cell}
+use Rattle.ap_net.specs.declared.cell.Cell.TheVariants as cell
+use Rattle.ap_net.specs.declared.net.Role.{Role}
+use Rattle.ap_net.specs.declared.net.Role.TheVariants as role
+use Rattle.ap_net.specs.declared.net.FlatNet.{FlatNet}
+use Rattle.ap_net.specs.declared.net.Port.{Port}
+use Rattle.ap_net.specs.declared.net.Net.{Net}
+use Rattle.ap_net.specs.declared.net.RegNet.{RegNet}
+use Rattle.ap_net.specs.declared.net.Assign.{Assign}
+use Rattle.ap_net.specs.declared.net.Next.{Next}
+use Rattle.ap_net.specs.Names.{IsNetName, AreDistinct}
+use Rattle.ap_net.specs.Wiring.{IsWired, IsDriven}
+use Rattle.ap_net.specs.Draft.{Draft}
+
+-- what a module's text has, line by line
+pub record ModuleText : Type 0 where
+  pub name : List ℕ
+  pub ports : List Port
+  pub wires : List Net
+  pub regs : List RegNet
+  pub assigns : List Assign
+  pub nexts : List Next
+
+abbrev pub port_net : Port → FlatNet
+port_net p = record { name = p.name; width = p.width; role = if p.output then role.Output else role.Input }
+
+abbrev pub wire_net : Net → FlatNet
+wire_net n = record { name = n.name; width = n.width; role = role.Plain }
+
+abbrev pub reg_net : RegNet → FlatNet
+reg_net r = record { name = r.name; width = r.width; role = role.Register r.reset }
+
+-- the nets as they are numbered: the ports, then the wires, then the registers
+abbrev pub nets_of : ModuleText → List FlatNet
+nets_of m = map port_net m.ports ++ map wire_net m.wires ++ map reg_net m.regs
+
+-- the name of a net by its number
+abbrev pub name_of : Option FlatNet → List ℕ
+name_of None = []
+name_of (Some net) = net.name
+
+abbrev pub name_at : List FlatNet → ℕ → List ℕ
+name_at nets n = name_of (slice_get nets n)
+
+-- what a finished module keeps
+pub record IsModule (m : ModuleText) : Type 0 where
+  pub name : IsNetName m.name
+  pub ports : 0 < length m.ports
+  pub wired : IsWired (nets_of m) m.assigns m.nexts
+  pub driven : IsDriven (nets_of m) m.assigns m.nexts
+
+-- the last module is named top
+abbrev pub EndsInTop : List ModuleText → Type 0
+EndsInTop [] = ⊥
+EndsInTop (m ∷ []) = m.name ≡ codes "top"
+EndsInTop (m ∷ n ∷ ms) = EndsInTop (n ∷ ms)
+
+-- each module keeps its rules, their names differ, and the last one is top
+pub record IsNetlist (modules : List ModuleText) : Type 0 where
+  pub each : Each IsModule modules
+  pub distinct : AreDistinct (map (λ m. m.name) modules)
+  pub last : EndsInTop modules
+
+-- the ports, wires and registers among nets, in the order of their declaration
+abbrev pub port_by : Role → FlatNet → Option Port
+port_by role.Input net = Some (record { name = net.name; width = net.width; output = false })
+port_by role.Output net = Some (record { name = net.name; width = net.width; output = true })
+port_by role.Plain net = None
+port_by (role.Register reset) net = None
+
+abbrev pub wire_by : Role → FlatNet → Option Net
+wire_by role.Input net = None
+wire_by role.Output net = None
+wire_by role.Plain net = Some (record { name = net.name; width = net.width })
+wire_by (role.Register reset) net = None
+
+abbrev pub reg_by : Role → FlatNet → Option RegNet
+reg_by role.Input net = None
+reg_by role.Output net = None
+reg_by role.Plain net = None
+reg_by (role.Register reset) net = Some (record { name = net.name; width = net.width; reset = reset })
+
+abbrev pub ports_among : List FlatNet → List Port
+ports_among nets = filter_map (λ net. port_by net.role net) nets
+
+abbrev pub wires_among : List FlatNet → List Net
+wires_among nets = filter_map (λ net. wire_by net.role net) nets
+
+abbrev pub regs_among : List FlatNet → List RegNet
+regs_among nets = filter_map (λ net. reg_by net.role net) nets
+
+-- a wire, a cell, an assign and a register's driver under other numbers
+abbrev pub placed : (ℕ → ℕ) → Wire → Wire
+placed place w = record { number = place w.number; width = w.width }
+
+abbrev pub cell_placed : (ℕ → ℕ) → Cell → Cell
+cell_placed place (cell.Const c) = cell.Const c
+cell_placed place (cell.Copy a) = cell.Copy (placed place a)
+cell_placed place (cell.Not a) = cell.Not (placed place a)
+cell_placed place (cell.Two o a b) = cell.Two o (placed place a) (placed place b)
+cell_placed place (cell.Choose s a b) = cell.Choose (placed place s) (placed place a) (placed place b)
+cell_placed place (cell.Cat a b) = cell.Cat (placed place a) (placed place b)
+cell_placed place (cell.Slice a h l) = cell.Slice (placed place a) h l
+
+abbrev pub assign_placed : (ℕ → ℕ) → Assign → Assign
+assign_placed place a = record { to = placed place a.to; cell = cell_placed place a.cell }
+
+abbrev pub next_placed : (ℕ → ℕ) → Next → Next
+next_placed place x = record { register = placed place x.register; from = placed place x.from }
+
+-- The module is the draft finished: its nets stand by kind and otherwise in the order of their declaration. `place` gives a
+-- net's number in the module, `back` its number in the draft.
+pub record IsFinished (d : Draft) (m : ModuleText) : Type 0 where
+  pub name : m.name ≡ d.name
+  pub ports : m.ports ≡ ports_among d.nets
+  pub wires : m.wires ≡ wires_among d.nets
+  pub regs : m.regs ≡ regs_among d.nets
+  pub place : ℕ → ℕ
+  pub back : ℕ → ℕ
+  pub nets : (n : ℕ) → n < length d.nets → slice_get (nets_of m) (place n) ≡ slice_get d.nets n
+  pub returns : (n : ℕ) → n < length d.nets → back (place n) ≡ n
+  pub within : (n : ℕ) → n < length (nets_of m) → back n < length d.nets
+  pub covers : (n : ℕ) → n < length (nets_of m) → place (back n) ≡ n
+  pub assigns : m.assigns ≡ map (assign_placed place) d.assigns
+  pub nexts : m.nexts ≡ map (next_placed place) d.nexts

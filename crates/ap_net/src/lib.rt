@@ -1,0 +1,11 @@
+//! Nets, cells and modules of the Verilog subset: what they mean, a builder that makes them, and their one spelling.
+#![tactic(auto)]
+
+pub mod builder;
+pub mod cell;
+pub mod memory;
+pub mod module;
+pub mod name;
+pub mod net;
+
+pub use memory::NoMemory;

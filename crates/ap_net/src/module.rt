@@ -1,0 +1,134 @@
+ghost use Rattle.std.specs.Prelude.{◌≡◌, ◌<◌, ◌∷◌, [], length, codes, IfOk, OnOk};
+ghost use Rattle.ap_net.specs.Modules.{nets_of, name_at, IsModule};
+
+use crate::NoMemory;
+use crate::name::NetName;
+use crate::net::{Assign, Net, Next, Port, RegNet};
+use std::alloc::Global;
+use std::marker::Model;
+
+/// A finished module: its ports after `clk` and `rst`, its wires, its registers, what drives them, each list in the order
+/// of the text's lines. Nets are numbered through the ports, then the wires, then the registers. A module keeps in its
+/// type that it is wired rightly, that every net which isn't an input has its driver, and that it has a port.
+#[derive(Drop)]
+pub struct Module {
+    name: NetName,
+    ports: Vec<Port>,
+    wires: Vec<Net>,
+    regs: Vec<RegNet>,
+    assigns: Vec<Assign>,
+    nexts: Vec<Next>,
+}
+
+impl Model for Module {
+    ghost use Rattle.ap_net.specs.Modules.{ModuleText, IsModule};
+
+    ghost Value = { ModuleText };
+
+    ghost view = { λ m. record { name = m.name; ports = m.ports.items; wires = m.wires.items; regs = m.regs.items; assigns = m.assigns.items; nexts = m.nexts.items } };
+
+    ghost invariant = { λ m. IsModule (record { name = m.name; ports = m.ports.items; wires = m.wires.items; regs = m.regs.items; assigns = m.assigns.items; nexts = m.nexts.items }) };
+}
+
+impl Module {
+    /// A module of these parts.
+    pub(crate) fn of_parts(
+        name: NetName,
+        ports: Vec<Port>,
+        wires: Vec<Net>,
+        regs: Vec<RegNet>,
+        assigns: Vec<Assign>,
+        nexts: Vec<Next>,
+    ) -> Module
+        requires { IsModule (record { name = name; ports = ports.items; wires = wires.items; regs = regs.items; assigns = assigns.items; nexts = nexts.items }) }
+        ensures { result ≡ record { name = name; ports = ports.items; wires = wires.items; regs = regs.items; assigns = assigns.items; nexts = nexts.items } }
+    {
+        Module {
+            name,
+            ports,
+            wires,
+            regs,
+            assigns,
+            nexts,
+        }
+    }
+
+    /// The module's name.
+    pub fn name(&self) -> &NetName
+        ensures { result.now ≡ self.now.name }
+    {
+        &self.name
+    }
+
+    /// The ports after `clk` and `rst`.
+    pub fn ports(&self) -> &[Port]
+        ensures { result.now ≡ self.now.ports }
+    {
+        &self.ports
+    }
+
+    /// The wires.
+    pub fn wires(&self) -> &[Net]
+        ensures { result.now ≡ self.now.wires }
+    {
+        &self.wires
+    }
+
+    /// The registers.
+    pub fn regs(&self) -> &[RegNet]
+        ensures { result.now ≡ self.now.regs }
+    {
+        &self.regs
+    }
+
+    /// What drives the wires and outputs.
+    pub fn assigns(&self) -> &[Assign]
+        ensures { result.now ≡ self.now.assigns }
+    {
+        &self.assigns
+    }
+
+    /// What the registers take at the clock edge.
+    pub fn nexts(&self) -> &[Next]
+        ensures { result.now ≡ self.now.nexts }
+    {
+        &self.nexts
+    }
+}
+
+/// A netlist: today the one module `top`.
+#[derive(Drop)]
+pub struct Netlist {
+    modules: Vec<Module>,
+}
+
+impl Model for Netlist {
+    ghost use Rattle.std.specs.Prelude.{List};
+    ghost use Rattle.ap_net.specs.Modules.{ModuleText, IsNetlist};
+
+    ghost Value = { List ModuleText };
+
+    ghost view = { λ n. n.modules.items };
+
+    ghost invariant = { λ n. IsNetlist n.modules.items };
+}
+
+impl Netlist {
+    /// The netlist of a module `top` alone.
+    pub fn of_top(alloc: Global, top: Module) -> Result<Netlist, NoMemory>
+        requires { top.name ≡ codes "top" }
+        ensures { IfOk result (λ net. net ≡ top ∷ []) }
+    {
+        let _ = &top.name;
+        let mut modules = Vec::new(alloc);
+        modules.push(top)?;
+        Ok(Netlist { modules })
+    }
+
+    /// The modules in the order of the text.
+    pub fn modules(&self) -> &[Module]
+        ensures { result.now ≡ self.now }
+    {
+        &self.modules
+    }
+}
