@@ -2,3 +2,4 @@ pub mod NameLemmas
 pub mod Lists
 pub mod Wired
 pub mod Drafts
+pub mod Steps

@@ -3,3 +3,4 @@ pub mod Cells
 pub mod Wiring
 pub mod Draft
 pub mod Modules
+pub mod Places

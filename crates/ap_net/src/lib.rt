@@ -3,6 +3,7 @@
 
 pub mod builder;
 pub mod cell;
+mod finish;
 pub mod memory;
 pub mod module;
 pub mod name;

@@ -44,6 +44,14 @@ impl NetName {
         Ok(NetName { text })
     }
 
+    /// The name once more.
+    pub fn copy(&self, alloc: Global) -> Result<NetName, NoMemory>
+        ensures { IfOk result (λ made. made ≡ self.now) }
+    {
+        let text = String::from_str(alloc, self.text.as_str())?;
+        Ok(NetName { text })
+    }
+
     /// The name as text.
     pub fn as_str(&self) -> &str
         ensures { result.now ≡ self.now }
