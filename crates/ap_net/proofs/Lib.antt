@@ -3,3 +3,4 @@ pub mod Lists
 pub mod Wired
 pub mod Drafts
 pub mod Steps
+pub mod Numbering

@@ -4,3 +4,7 @@ pub mod Wiring
 pub mod Draft
 pub mod Modules
 pub mod Places
+pub mod Flat
+pub mod Outside
+pub mod Runs
+pub mod Rows
