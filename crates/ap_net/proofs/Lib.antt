@@ -4,3 +4,4 @@ pub mod Wired
 pub mod Drafts
 pub mod Steps
 pub mod Numbering
+pub mod Renumbered
