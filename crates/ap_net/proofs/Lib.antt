@@ -5,3 +5,4 @@ pub mod Drafts
 pub mod Steps
 pub mod Numbering
 pub mod Renumbered
+pub mod Finished

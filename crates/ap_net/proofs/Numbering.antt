@@ -86,7 +86,7 @@ get_either (y ∷ xs) ys zero x at = inl at
 get_either (y ∷ xs) ys (suc m) x at = ⊎_elim inl (λ q. inr (q.0, (let e : m ≡ length xs + q.0 = q.1 in let next : suc m ≡ suc (length xs) + q.0 = omega arith in next), q.2)) (get_either xs ys m x at)
 
 -- the kinds of nets, as the finished module lists them
-ports_filter : (nets : List FlatNet) → map port_net (ports_among nets) ≡ filter is_port nets
+pub ports_filter : (nets : List FlatNet) → map port_net (ports_among nets) ≡ filter is_port nets
 ports_filter [] = refl
 ports_filter (net ∷ nets) = go (ports_filter nets) net.name net.width net.role
   where
@@ -96,7 +96,7 @@ ports_filter (net ∷ nets) = go (ports_filter nets) net.name net.width net.role
     go later name width role.Plain = later
     go later name width (role.Register reset) = later
 
-wires_filter : (nets : List FlatNet) → map wire_net (wires_among nets) ≡ filter is_wire nets
+pub wires_filter : (nets : List FlatNet) → map wire_net (wires_among nets) ≡ filter is_wire nets
 wires_filter [] = refl
 wires_filter (net ∷ nets) = go (wires_filter nets) net.name net.width net.role
   where
@@ -106,7 +106,7 @@ wires_filter (net ∷ nets) = go (wires_filter nets) net.name net.width net.role
     go later name width role.Plain = ap (λ l. record { name = name; width = width; role = role.Plain } ∷ l) later
     go later name width (role.Register reset) = later
 
-regs_filter : (nets : List FlatNet) → map reg_net (regs_among nets) ≡ filter is_register nets
+pub regs_filter : (nets : List FlatNet) → map reg_net (regs_among nets) ≡ filter is_register nets
 regs_filter [] = refl
 regs_filter (net ∷ nets) = go (regs_filter nets) net.name net.width net.role
   where

@@ -203,3 +203,29 @@ module _ (olds news : List FlatNet) (place back : ℕ → ℕ) (r : IsRenumberin
         (All-from (λ (x : Next). place x.register.number ≢ m) (λ (x : Next). x.register.number ≢ back m) (λ x ne e. ne (ap place e ∙ r.covers m (slice_get_within news m net at))) nexts
         (All-unmap (λ (x : Next). x.register.number ≢ m) (next_placed place) nexts none));
   }
+
+  -- values that settle the new nets settle the old ones, each read at its new number
+  pub Settles-placed : (assigns : List Assign) (read : ℕ → ℕ) → Settles news (map (assign_placed place) assigns) read → Settles olds assigns (λ n. read (place n))
+  Settles-placed assigns read s = record {
+    fits = λ n w h.
+        let lt' : n < length (widths_of olds) = slice_get_within (widths_of olds) n w h in
+        let lt : n < length olds = rw length-map at lt' in
+        s.fits (place n) w (slice_get-map (λ (x : FlatNet). x.width) news (place n) ∙ ap (option_map (λ (x : FlatNet). x.width)) (r.nets n lt) ∙ sym (slice_get-map (λ (x : FlatNet). x.width) olds n) ∙ h);
+    holds = All-from (λ (a : Assign). Holds read (assign_placed place a)) (Holds (λ n. read (place n))) (λ a h. h ∙ cell_value-placed place read a.to.width a.cell) assigns
+        (All-unmap (Holds read) (assign_placed place) assigns s.holds);
+  }
+
+  -- an order of the old assigns is one of the new ones
+  pub Ranked-placed : (assigns : List Assign) (nexts : List Next) (rank : ℕ → ℕ) → IsWired olds assigns nexts → Ranked rank assigns → Ranked (λ n. rank (back n)) (map (assign_placed place) assigns)
+  Ranked-placed assigns nexts rank wired h =
+      All-map (λ (a : Assign). Each (λ (o : Wire). rank (back o.number) < rank (back a.to.number)) (operands a.cell)) (assign_placed place) assigns
+      (All-both (λ (a : Assign). IsNet olds a.to × Each (IsNet olds) (operands a.cell)) (λ (a : Assign). Each (λ (o : Wire). rank o.number < rank a.to.number) (operands a.cell))
+      (λ (a : Assign). Each (λ (o : Wire). rank (back o.number) < rank (back (place a.to.number))) (operands (cell_placed place a.cell)))
+      (λ a nets lower. subst (Each (λ (o : Wire). rank (back o.number) < rank (back (place a.to.number)))) (sym (operands-placed place a.cell))
+      (All-map (λ (o : Wire). rank (back o.number) < rank (back (place a.to.number))) (placed place) (operands a.cell)
+      (All-both (IsNet olds) (λ (o : Wire). rank o.number < rank a.to.number) (λ (o : Wire). rank (back (place o.number)) < rank (back (place a.to.number)))
+      (λ o net lt. let e : back (place o.number) ≡ o.number = r.returns o.number (number-IsNet olds o net) in let f : back (place a.to.number) ≡ a.to.number = r.returns a.to.number (number-IsNet olds a.to nets.0) in rw (e, f) lt)
+      (operands a.cell) nets.1 lower)))
+      assigns
+      (All-both (λ (a : Assign). IsNet olds a.to) (λ (a : Assign). Each (IsNet olds) (operands a.cell)) (λ (a : Assign). IsNet olds a.to × Each (IsNet olds) (operands a.cell)) (λ a p q. (p, q)) assigns wired.results (declared olds assigns nexts wired))
+      h)

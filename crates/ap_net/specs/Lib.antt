@@ -5,6 +5,7 @@ pub mod Draft
 pub mod Modules
 pub mod Places
 pub mod Flat
+pub mod Finished
 pub mod Outside
 pub mod Runs
 pub mod Rows

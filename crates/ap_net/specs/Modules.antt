@@ -1,4 +1,4 @@
--- Finished modules and netlists, as plain records; how a finished module comes from a draft; existence of a solution.
+-- Finished modules and netlists, as plain records.
 use Rattle.std.specs.Prelude.{◌≡◌, ◌≢◌, ℕ, ◌+◌, ◌<◌, List, [], ◌∷◌, ◌++◌, length, map, filter_map, codes, slice_get, unwrap_or, Option, Some, None, Bool, true, false, if◌then◌else◌}
 use Rattle.std.specs.List.{AllByRecursion as Each}
 use Rattle.ap_net.specs.declared.cell.Wire.{Wire}
@@ -14,7 +14,6 @@ use Rattle.ap_net.specs.declared.net.Assign.{Assign}
 use Rattle.ap_net.specs.declared.net.Next.{Next}
 use Rattle.ap_net.specs.Names.{IsNetName, AreDistinct}
 use Rattle.ap_net.specs.Wiring.{IsWired, IsDriven}
-use Rattle.ap_net.specs.Draft.{Draft}
 
 -- what a module's text has, line by line
 pub record ModuleText : Type 0 where
@@ -111,19 +110,3 @@ assign_placed place a = record { to = placed place a.to; cell = cell_placed plac
 
 abbrev pub next_placed : (ℕ → ℕ) → Next → Next
 next_placed place x = record { register = placed place x.register; from = placed place x.from }
-
--- The module is the draft finished: its nets stand by kind and otherwise in the order of their declaration. `place` gives a
--- net's number in the module, `back` its number in the draft.
-pub record IsFinished (d : Draft) (m : ModuleText) : Type 0 where
-  pub name : m.name ≡ d.name
-  pub ports : m.ports ≡ ports_among d.nets
-  pub wires : m.wires ≡ wires_among d.nets
-  pub regs : m.regs ≡ regs_among d.nets
-  pub place : ℕ → ℕ
-  pub back : ℕ → ℕ
-  pub nets : (n : ℕ) → n < length d.nets → slice_get (nets_of m) (place n) ≡ slice_get d.nets n
-  pub returns : (n : ℕ) → n < length d.nets → back (place n) ≡ n
-  pub within : (n : ℕ) → n < length (nets_of m) → back n < length d.nets
-  pub covers : (n : ℕ) → n < length (nets_of m) → place (back n) ≡ n
-  pub assigns : m.assigns ≡ map (assign_placed place) d.assigns
-  pub nexts : m.nexts ≡ map (next_placed place) d.nexts

@@ -1,11 +1,15 @@
 ghost use Rattle.std.specs.Prelude.{◌≡◌, ℕ, ◌+◌, ◌<◌, ◌≤◌, ◌∷◌, ◌++◌, [], List, length, OnOk, OnErr, IfOk, ◌^◌, slice_get, Some, if◌then◌else◌};
 ghost use Rattle.ap_net.specs.Names.{IsNetName, IsNew, IsNotNumbered, numbered};
 ghost use Rattle.ap_net.specs.Cells.{IsNet, CellFits, cell_value};
-ghost use Rattle.ap_net.specs.Wiring.{IsFree, reset_of, NextFits, Undriven, Unclocked, taken_names};
+ghost use Rattle.ap_net.specs.Wiring.{IsFree, reset_of, NextFits, IsDriven, Undriven, Unclocked, taken_names};
+ghost use Rattle.ap_net.specs.Modules.{ports_among};
+ghost use Rattle.ap_net.specs.Finished.{IsFinished};
 ghost use Rattle.ap_net.specs.Draft.{Draft, Adds, CanFresh, SettlesDraft, is_plain, wire_count};
 
 use crate::NoMemory;
 use crate::cell::{Cell, Wire};
+use crate::finish::finished;
+use crate::module::Module;
 use crate::name::NetName;
 use crate::net::{Assign, FlatNet, Next, Role};
 use std::alloc::Global;
@@ -238,5 +242,23 @@ impl Builder {
         let to = self.output(name, width)?;
         self.cell(to, cell)?;
         Ok(to)
+    }
+
+    /// The finished module: its nets stand by kind, ports first, then wires, then registers, each kind in the order of
+    /// its declaration, and are numbered so.
+    pub fn finish(self) -> Result<Module, NoMemory>
+        requires driven { IsDriven self.nets self.assigns self.nexts }
+        requires port { 0 < length (ports_among self.nets) }
+        ensures { IfOk result (IsFinished self) }
+    {
+        let Builder {
+            alloc,
+            name,
+            nets,
+            assigns,
+            nexts,
+            wires: _,
+        } = self;
+        finished(alloc, name, &nets, &assigns, &nexts)
     }
 }

@@ -5,12 +5,17 @@ ghost use Rattle.ap_net.specs.declared.net.FlatNet.{FlatNet};
 ghost use Rattle.ap_net.specs.declared.net.Assign.{Assign};
 ghost use Rattle.ap_net.specs.declared.net.Next.{Next};
 ghost use Rattle.ap_net.specs.Cells.{operands};
-ghost use Rattle.ap_net.specs.Draft.{is_plain, wire_count};
+ghost use Rattle.ap_net.specs.Names.{IsNetName};
+ghost use Rattle.ap_net.specs.Wiring.{IsWired, IsDriven};
+ghost use Rattle.ap_net.specs.Draft.{Draft, is_plain, wire_count};
+ghost use Rattle.ap_net.specs.Finished.{IsFinished};
 ghost use Rattle.ap_net.specs.Modules.{placed, cell_placed, assign_placed, next_placed, port_by, wire_by, reg_by, ports_among, wires_among, regs_among};
 ghost use Rattle.ap_net.specs.Places.{has_port_role, has_register_role, one_more_if, number_by, port_count, place_by};
 
 use crate::NoMemory;
 use crate::cell::{Cell, Wire};
+use crate::module::Module;
+use crate::name::NetName;
 use crate::net::{Assign, FlatNet, Net, Next, Port, RegNet, Role};
 use std::alloc::Global;
 
@@ -57,7 +62,7 @@ fn reg_of(alloc: Global, net: &FlatNet) -> Result<Option<RegNet>, NoMemory>
 }
 
 /// The ports among nets, in the order of their declaration.
-pub(crate) fn ports_of(alloc: Global, nets: &[FlatNet]) -> Result<Vec<Port>, NoMemory>
+fn ports_of(alloc: Global, nets: &[FlatNet]) -> Result<Vec<Port>, NoMemory>
     ensures { IfOk result (λ ports. ports.items ≡ ports_among nets.now) }
 {
     let mut ports = Vec::new(alloc);
@@ -70,7 +75,7 @@ pub(crate) fn ports_of(alloc: Global, nets: &[FlatNet]) -> Result<Vec<Port>, NoM
 }
 
 /// The wires among nets, in the order of their declaration.
-pub(crate) fn wires_of(alloc: Global, nets: &[FlatNet]) -> Result<Vec<Net>, NoMemory>
+fn wires_of(alloc: Global, nets: &[FlatNet]) -> Result<Vec<Net>, NoMemory>
     ensures { IfOk result (λ wires. wires.items ≡ wires_among nets.now) }
 {
     let mut wires = Vec::new(alloc);
@@ -83,7 +88,7 @@ pub(crate) fn wires_of(alloc: Global, nets: &[FlatNet]) -> Result<Vec<Net>, NoMe
 }
 
 /// The registers among nets, in the order of their declaration.
-pub(crate) fn regs_of(alloc: Global, nets: &[FlatNet]) -> Result<Vec<RegNet>, NoMemory>
+fn regs_of(alloc: Global, nets: &[FlatNet]) -> Result<Vec<RegNet>, NoMemory>
     ensures { IfOk result (λ regs. regs.items ≡ regs_among nets.now) }
 {
     let mut regs = Vec::new(alloc);
@@ -146,7 +151,7 @@ impl Free {
 }
 
 /// The numbers that nets get in the finished module.
-pub(crate) fn places_of(
+fn places_of(
     alloc: Global,
     nets: &[FlatNet],
     ports: usize,
@@ -199,7 +204,7 @@ fn cell_under(cell: Cell, places: &[usize]) -> Cell
 }
 
 /// The assigns over the numbers of the finished module.
-pub(crate) fn assigns_under(
+fn assigns_under(
     alloc: Global,
     assigns: &[Assign],
     places: &[usize],
@@ -218,7 +223,7 @@ pub(crate) fn assigns_under(
 }
 
 /// The registers' drivers over the numbers of the finished module.
-pub(crate) fn nexts_under(
+fn nexts_under(
     alloc: Global,
     nexts: &[Next],
     places: &[usize],
@@ -234,4 +239,28 @@ pub(crate) fn nexts_under(
         made.push(Next { register, from })?;
     }
     Ok(made)
+}
+
+/// The finished module of these nets and what drives them.
+pub(crate) fn finished(
+    alloc: Global,
+    name: NetName,
+    nets: &[FlatNet],
+    assigns: &[Assign],
+    nexts: &[Next],
+) -> Result<Module, NoMemory>
+    requires name { IsNetName name }
+    requires wired { IsWired nets.now assigns.now nexts.now }
+    requires driven { IsDriven nets.now assigns.now nexts.now }
+    requires port { 0 < length (ports_among nets.now) }
+    ensures { IfOk result (IsFinished (record { name = name; nets = nets.now; assigns = assigns.now; nexts = nexts.now })) }
+{
+    let ports = ports_of(alloc, nets)?;
+    let wires = wires_of(alloc, nets)?;
+    let regs = regs_of(alloc, nets)?;
+    let places = places_of(alloc, nets, ports.len(), wires.len())?;
+    let places = places.as_slice();
+    let assigns = assigns_under(alloc, assigns, places)?;
+    let nexts = nexts_under(alloc, nexts, places)?;
+    Ok(Module::of_parts(name, ports, wires, regs, assigns, nexts))
 }
