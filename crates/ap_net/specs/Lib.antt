@@ -9,3 +9,4 @@ pub mod Finished
 pub mod Outside
 pub mod Runs
 pub mod Rows
+pub mod Text

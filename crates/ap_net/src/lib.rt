@@ -8,5 +8,6 @@ pub mod memory;
 pub mod module;
 pub mod name;
 pub mod net;
+pub mod write;
 
 pub use memory::NoMemory;
