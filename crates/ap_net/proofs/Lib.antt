@@ -6,3 +6,6 @@ pub mod Steps
 pub mod Numbering
 pub mod Renumbered
 pub mod Finished
+pub mod Among
+pub mod Fronts
+pub mod Laws

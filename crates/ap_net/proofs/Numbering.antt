@@ -75,7 +75,7 @@ module _ {X : Type 0} (p : X → Bool) where
       go later true e (suc m) at = let one : (if p y then 1 else 0) ≡ 1 = rw e refl in let next : 1 + m ≡ suc m = omega arith in subst (λ i. Passes k (y ∷ xs) i j) next (one_on k y xs m j 1 one (later m at))
       go later false e m at = let none : (if p y then 1 else 0) ≡ 0 = rw e refl in subst (λ i. Passes k (y ∷ xs) i j) (zero-add m) (one_on k y xs m j 0 none (later m at))
 
-get_right : {X : Type 0} (xs ys : List X) (i : ℕ) → slice_get (xs ++ ys) (length xs + i) ≡ slice_get ys i
+pub get_right : {X : Type 0} (xs ys : List X) (i : ℕ) → slice_get (xs ++ ys) (length xs + i) ≡ slice_get ys i
 get_right [] ys i = rw (zero-add i) refl
 get_right (x ∷ xs) ys i = let next : suc (length xs) + i ≡ suc (length xs + i) = omega arith in rw next (get_right xs ys i)
 

@@ -13,7 +13,7 @@ use Rattle.ap_net.specs.declared.net.RegNet.{RegNet}
 use Rattle.ap_net.specs.declared.net.Assign.{Assign}
 use Rattle.ap_net.specs.declared.net.Next.{Next}
 use Rattle.ap_net.specs.Names.{IsNetName, AreDistinct}
-use Rattle.ap_net.specs.Wiring.{IsWired, IsDriven}
+use Rattle.ap_net.specs.Wiring.{IsWired, IsDriven, reset_of}
 
 -- what a module's text has, line by line
 pub record ModuleText : Type 0 where
@@ -34,8 +34,11 @@ abbrev pub reg_net : RegNet → FlatNet
 reg_net r = record { name = r.name; width = r.width; role = role.Register r.reset }
 
 -- the nets as they are numbered: the ports, then the wires, then the registers
+abbrev pub nets_among : List Port → List Net → List RegNet → List FlatNet
+nets_among ports wires regs = map port_net ports ++ map wire_net wires ++ map reg_net regs
+
 abbrev pub nets_of : ModuleText → List FlatNet
-nets_of m = map port_net m.ports ++ map wire_net m.wires ++ map reg_net m.regs
+nets_of m = nets_among m.ports m.wires m.regs
 
 -- the name of a net by its number
 abbrev pub name_of : Option FlatNet → List ℕ
@@ -44,6 +47,14 @@ name_of (Some net) = net.name
 
 abbrev pub name_at : List FlatNet → ℕ → List ℕ
 name_at nets n = name_of (slice_get nets n)
+
+-- the value of a net after the reset edge by its number; 0 for what is no register
+abbrev pub reset_value : Option FlatNet → ℕ
+reset_value None = 0
+reset_value (Some net) = reset_of net.role
+
+abbrev pub reset_at : List FlatNet → ℕ → ℕ
+reset_at nets n = reset_value (slice_get nets n)
 
 -- what a finished module keeps
 pub record IsModule (m : ModuleText) : Type 0 where

@@ -1,7 +1,7 @@
 -- Runs of a netlist in its environment: memories that answer in the same cycle and take a write at the edge.
-use Rattle.std.specs.Prelude.{◌≡◌, ℕ, zero, suc, ◌+◌, ◌<◌, ◌==◌, List, [], ◌∷◌, map, codes, slice_index, slice_get, Option, Some, None, Bool, if◌then◌else◌}
+use Rattle.std.specs.Prelude.{◌≡◌, ℕ, zero, suc, ◌+◌, ◌<◌, ◌==◌, List, [], ◌∷◌, map, codes, slice_index, Option, Some, None, Bool, if◌then◌else◌}
 use Rattle.ap_net.specs.declared.net.FlatNet.{FlatNet}
-use Rattle.ap_net.specs.Wiring.{reset_of}
+use Rattle.ap_net.specs.Modules.{reset_at}
 use Rattle.ap_net.specs.Flat.{Flat, Solves, value_named}
 use Rattle.ap_net.specs.Outside.{Outside, InPort, MemPorts, Image, TraceLine, input_name, mem_name, line_at}
 
@@ -10,13 +10,9 @@ pub record NetState : Type 0 where
   pub registers : List ℕ
   pub mems : List (List ℕ)
 
-abbrev pub reset_at : Option FlatNet → ℕ
-reset_at None = 0
-reset_at (Some net) = reset_of net.role
-
 -- after the reset edge each register has its reset value, and the memories are those of the image
 abbrev pub reset_state : Flat → Image → NetState
-reset_state f image = record { registers = map (λ x. reset_at (slice_get f.nets x.register.number)) f.nexts; mems = image.mems }
+reset_state f image = record { registers = map (λ x. reset_at f.nets x.register.number) f.nexts; mems = image.mems }
 
 abbrev pub bit : Bool → ℕ
 bit b = if b then 1 else 0

@@ -1,5 +1,5 @@
 -- The one spelling of a netlist: modules, one after another, line by line.
-use Rattle.std.specs.Prelude.{◌≡◌, ℕ, ◌-◌, List, [], ◌∷◌, ◌++◌, codes, slice_get, Option, Some, None, if◌then◌else◌}
+use Rattle.std.specs.Prelude.{◌≡◌, ℕ, ◌-◌, List, [], ◌∷◌, ◌++◌, codes, if◌then◌else◌}
 use Rattle.std.specs.List.{flat_map}
 use Rattle.std.specs.Fmt.{decimal}
 use Rattle.ap_net.specs.declared.cell.Wire.{Wire}
@@ -13,8 +13,7 @@ use Rattle.ap_net.specs.declared.net.Net.{Net}
 use Rattle.ap_net.specs.declared.net.RegNet.{RegNet}
 use Rattle.ap_net.specs.declared.net.Assign.{Assign}
 use Rattle.ap_net.specs.declared.net.Next.{Next}
-use Rattle.ap_net.specs.Wiring.{reset_of}
-use Rattle.ap_net.specs.Modules.{ModuleText, nets_of, name_at}
+use Rattle.ap_net.specs.Modules.{ModuleText, nets_of, name_at, reset_at}
 
 -- the bits of a net, highest first: [7:0]
 abbrev pub range_text : ℕ → List ℕ
@@ -59,14 +58,17 @@ cell_text nets width (cell.Slice a h l) = wire_name nets a ++ codes "[" ++ decim
 abbrev pub assign_line : List FlatNet → Assign → List ℕ
 assign_line nets a = codes "  assign " ++ wire_name nets a.to ++ codes " = " ++ cell_text nets a.to.width a.cell ++ codes ";\n"
 
--- the reset value of a declared register
-abbrev pub reset_value : Option FlatNet → ℕ
-reset_value None = 0
-reset_value (Some net) = reset_of net.role
+-- what a register takes
+abbrev pub taken_text : List ℕ → List ℕ → List ℕ
+taken_text register value = register ++ codes " <= " ++ value ++ codes ";"
 
-abbrev pub always_line : List FlatNet → Next → List ℕ
-always_line nets x = codes "  always @(posedge clk) if (rst) " ++ wire_name nets x.register ++ codes " <= "
-    ++ constant_text x.register.width (reset_value (slice_get nets x.register.number)) ++ codes "; else " ++ wire_name nets x.register ++ codes " <= " ++ wire_name nets x.from ++ codes ";\n"
+-- the line of a register, by what it takes at the reset edge and at any other
+unfoldable pub clocked_text : List ℕ → List ℕ → List ℕ
+clocked_text at_reset at_edge = codes "  always @(posedge clk) if (rst) " ++ at_reset ++ codes " else " ++ at_edge ++ codes "\n"
+
+unfoldable pub always_line : List FlatNet → Next → List ℕ
+always_line nets x = clocked_text (taken_text (wire_name nets x.register) (constant_text x.register.width (reset_at nets x.register.number)))
+    (taken_text (wire_name nets x.register) (wire_name nets x.from))
 
 -- a module: its head with the ports, its wires, its registers, its assigns, what its registers take
 abbrev pub module_head : ModuleText → List ℕ

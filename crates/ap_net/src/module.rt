@@ -1,5 +1,5 @@
 ghost use Rattle.std.specs.Prelude.{◌≡◌, ◌<◌, ◌∷◌, [], length, codes, IfOk, OnOk};
-ghost use Rattle.ap_net.specs.Modules.{nets_of, name_at, IsModule};
+ghost use Rattle.ap_net.specs.Modules.{nets_of, nets_among, name_at, reset_at, IsModule};
 
 use crate::NoMemory;
 use crate::name::NetName;
@@ -30,6 +30,36 @@ impl Model for Module {
     ghost invariant = { λ m. IsModule (record { name = m.name; ports = m.ports.items; wires = m.wires.items; regs = m.regs.items; assigns = m.assigns.items; nexts = m.nexts.items }) };
 }
 
+/// The name of a net among ports, wires and registers, numbered through in this order.
+fn name_among<'a>(ports: &'a [Port], wires: &'a [Net], regs: &'a [RegNet], number: usize) -> &'a str
+    requires { number < length (nets_among ports.now wires.now regs.now) }
+    ensures { result.now ≡ name_at (nets_among ports.now wires.now regs.now) number }
+{
+    if number < ports.len() {
+        return ports[number].name.as_str();
+    }
+    let number = number - ports.len();
+    if number < wires.len() {
+        return wires[number].name.as_str();
+    }
+    regs[number - wires.len()].name.as_str()
+}
+
+/// The reset value of a net among ports, wires and registers, numbered through in this order; 0 for what is no register.
+fn reset_among(ports: &[Port], wires: &[Net], regs: &[RegNet], number: usize) -> u64
+    requires { number < length (nets_among ports.now wires.now regs.now) }
+    ensures { result ≡ reset_at (nets_among ports.now wires.now regs.now) number }
+{
+    if number < ports.len() {
+        return 0;
+    }
+    let number = number - ports.len();
+    if number < wires.len() {
+        return 0;
+    }
+    regs[number - wires.len()].reset
+}
+
 impl Module {
     /// A module of these parts.
     pub(crate) fn of_parts(
@@ -58,6 +88,29 @@ impl Module {
         ensures { result.now ≡ self.now.name }
     {
         &self.name
+    }
+
+    /// What every module keeps, as a fact that callers can use.
+    pub fn rules(&self)
+        ensures { IsModule self.now }
+    {
+        let _ = &self.name;
+    }
+
+    /// The name of a net, by its number.
+    pub fn net_name(&self, number: usize) -> &str
+        requires { number < length (nets_of self.now) }
+        ensures { result.now ≡ name_at (nets_of self.now) number }
+    {
+        name_among(&self.ports, &self.wires, &self.regs, number)
+    }
+
+    /// The value of a net after the reset edge, by its number; 0 for what is no register.
+    pub fn net_reset(&self, number: usize) -> u64
+        requires { number < length (nets_of self.now) }
+        ensures { result ≡ reset_at (nets_of self.now) number }
+    {
+        reset_among(&self.ports, &self.wires, &self.regs, number)
     }
 
     /// The ports after `clk` and `rst`.

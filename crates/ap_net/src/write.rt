@@ -1,14 +1,20 @@
 ghost use Rattle.std.specs.Prelude.{◌≡◌, ◌≤◌, ◌<◌, ◌++◌, length, OnOk, OnErr, IfOk, codes};
 ghost use Rattle.std.specs.List.{flat_map, AllByRecursion as Each};
 ghost use Rattle.std.specs.String.{string_bytes};
+ghost use Rattle.ap_net.specs.declared.cell.Wire.{Wire};
 ghost use Rattle.ap_net.specs.declared.net.Port.{Port};
 ghost use Rattle.ap_net.specs.declared.net.Net.{Net};
 ghost use Rattle.ap_net.specs.declared.net.RegNet.{RegNet};
-ghost use Rattle.ap_net.specs.Text.{range_text, constant_text, port_text, wire_line, reg_line, sign, AppendsFront};
+ghost use Rattle.ap_net.specs.declared.net.Assign.{Assign};
+ghost use Rattle.ap_net.specs.declared.net.Next.{Next};
+ghost use Rattle.ap_net.specs.Cells.{operands};
+ghost use Rattle.ap_net.specs.Modules.{nets_of};
+ghost use Rattle.ap_net.specs.Text.{constant_text, cell_text, port_text, wire_line, reg_line, assign_line, taken_text, clocked_text, always_line, sign, module_text, AppendsFront};
 
 use crate::NoMemory;
-use crate::cell::TwoOp;
-use crate::net::{Net, Port, RegNet};
+use crate::cell::{Cell, TwoOp};
+use crate::module::{Module, Netlist};
+use crate::net::{Assign, Net, Next, Port, RegNet};
 use std::alloc::Global;
 
 /// Appends a piece of text. After an error the text is as it was.
@@ -73,4 +79,225 @@ fn sign_of(op: TwoOp) -> &'static str
         TwoOp::Eq => " == ",
         TwoOp::Ltu => " < ",
     }
+}
+
+/// A constant of `width` bits.
+fn constant_string(alloc: Global, width: u32, value: u64) -> Result<String, NoMemory>
+    ensures { IfOk result (λ text. string_bytes text ≡ constant_text width value) }
+{
+    Ok(format!(in alloc; "{width}'d{value}")?)
+}
+
+/// The right side of an assign whose result has `width` bits.
+fn cell_string(
+    alloc: Global,
+    whole: &Module,
+    width: u32,
+    cell: Cell,
+) -> Result<String, NoMemory>
+    requires { Each (λ (o : Wire). o.number < length (nets_of whole.now)) (operands cell) }
+    ensures { IfOk result (λ text. string_bytes text ≡ cell_text (nets_of whole.now) width cell) }
+{
+    let text = match cell {
+        Cell::Const(value) => constant_string(alloc, width, value)?,
+        Cell::Copy(a) => {
+            let a = whole.net_name(a.number);
+            format!(in alloc; "{a}")?
+        }
+        Cell::Not(a) => {
+            let a = whole.net_name(a.number);
+            format!(in alloc; "~{a}")?
+        }
+        Cell::Two(op, a, b) => {
+            let a = whole.net_name(a.number);
+            let sign = sign_of(op);
+            let b = whole.net_name(b.number);
+            format!(in alloc; "{a}{sign}{b}")?
+        }
+        Cell::Choose(s, a, b) => {
+            let s = whole.net_name(s.number);
+            let a = whole.net_name(a.number);
+            let b = whole.net_name(b.number);
+            format!(in alloc; "{s} ? {a} : {b}")?
+        }
+        Cell::Cat(a, b) => {
+            let a = whole.net_name(a.number);
+            let b = whole.net_name(b.number);
+            format!(in alloc; "{{{a}, {b}}}")?
+        }
+        Cell::Slice(a, high, low) => {
+            let a = whole.net_name(a.number);
+            format!(in alloc; "{a}[{high}:{low}]")?
+        }
+    };
+    Ok(text)
+}
+
+/// Appends the line of an assign.
+fn put_assign(
+    alloc: Global,
+    whole: &Module,
+    assign: Assign,
+    out: &mut Vec<u8>,
+) -> Result<(), NoMemory>
+    requires to { assign.to.number < length (nets_of whole.now) }
+    requires operands { Each (λ (o : Wire). o.number < length (nets_of whole.now)) (operands assign.cell) }
+    ensures ok { OnOk result (out.new.items ≡ out.old.items ++ assign_line (nets_of whole.now) assign) }
+    ensures err { OnErr result (out.new.items ≡ out.old.items) }
+{
+    let to = whole.net_name(assign.to.number);
+    let right = cell_string(alloc, whole, assign.to.width, assign.cell)?;
+    let right = right.as_str();
+    let line = format!(in alloc; "  assign {to} = {right};\n")?;
+    put(line.as_str(), out)
+}
+
+/// What a register takes.
+fn taken_string(alloc: Global, register: &str, value: &str) -> Result<String, NoMemory>
+    ensures { IfOk result (λ text. string_bytes text ≡ taken_text register.now value.now) }
+{
+    Ok(format!(in alloc; "{register} <= {value};")?)
+}
+
+/// The line of a register, by what it takes at the reset edge and at any other.
+fn clocked_string(alloc: Global, at_reset: &str, at_edge: &str) -> Result<String, NoMemory>
+    ensures { IfOk result (λ text. string_bytes text ≡ clocked_text at_reset.now at_edge.now) }
+{
+    Ok(format!(in alloc; "  always @(posedge clk) if (rst) {at_reset} else {at_edge}\n")?)
+}
+
+/// Appends the line of a register's driver.
+fn put_next(
+    alloc: Global,
+    whole: &Module,
+    next: Next,
+    out: &mut Vec<u8>,
+) -> Result<(), NoMemory>
+    requires register { next.register.number < length (nets_of whole.now) }
+    requires from { next.from.number < length (nets_of whole.now) }
+    ensures ok { OnOk result (out.new.items ≡ out.old.items ++ always_line (nets_of whole.now) next) }
+    ensures err { OnErr result (out.new.items ≡ out.old.items) }
+{
+    let q = whole.net_name(next.register.number);
+    let reset = whole.net_reset(next.register.number);
+    let reset = constant_string(alloc, next.register.width, reset)?;
+    let reset = reset.as_str();
+    let d = whole.net_name(next.from.number);
+    let at_reset = taken_string(alloc, q, reset)?;
+    let at_reset = at_reset.as_str();
+    let at_edge = taken_string(alloc, q, d)?;
+    let at_edge = at_edge.as_str();
+    let line = clocked_string(alloc, at_reset, at_edge)?;
+    put(line.as_str(), out)
+}
+
+/// Appends the texts of ports.
+fn put_ports(
+    alloc: Global,
+    ports: &[Port],
+    out: &mut Vec<u8>,
+) -> Result<(), NoMemory>
+    requires { Each (λ (x : Port). 1 ≤ x.width) ports.now }
+    ensures { OnOk result (out.new.items ≡ out.old.items ++ flat_map port_text ports.now) }
+{
+    for port in ports {
+        put_port(alloc, port, out)?;
+    }
+    Ok(())
+}
+
+/// Appends the lines of wires.
+fn put_wires(
+    alloc: Global,
+    wires: &[Net],
+    out: &mut Vec<u8>,
+) -> Result<(), NoMemory>
+    requires { Each (λ (x : Net). 1 ≤ x.width) wires.now }
+    ensures { OnOk result (out.new.items ≡ out.old.items ++ flat_map wire_line wires.now) }
+{
+    for wire in wires {
+        put_wire(alloc, wire, out)?;
+    }
+    Ok(())
+}
+
+/// Appends the lines of registers.
+fn put_regs(
+    alloc: Global,
+    regs: &[RegNet],
+    out: &mut Vec<u8>,
+) -> Result<(), NoMemory>
+    requires { Each (λ (x : RegNet). 1 ≤ x.width) regs.now }
+    ensures { OnOk result (out.new.items ≡ out.old.items ++ flat_map reg_line regs.now) }
+{
+    for reg in regs {
+        put_reg(alloc, reg, out)?;
+    }
+    Ok(())
+}
+
+/// Appends the lines of assigns.
+fn put_assigns(
+    alloc: Global,
+    whole: &Module,
+    assigns: &[Assign],
+    out: &mut Vec<u8>,
+) -> Result<(), NoMemory>
+    requires results { Each (λ (a : Assign). a.to.number < length (nets_of whole.now)) assigns.now }
+    requires operands { Each (λ (a : Assign). Each (λ (o : Wire). o.number < length (nets_of whole.now)) (operands a.cell)) assigns.now }
+    ensures { OnOk result (out.new.items ≡ out.old.items ++ flat_map (assign_line (nets_of whole.now)) assigns.now) }
+{
+    for assign in assigns {
+        put_assign(alloc, whole, *assign, out)?;
+    }
+    Ok(())
+}
+
+/// Appends the lines of registers' drivers.
+fn put_nexts(
+    alloc: Global,
+    whole: &Module,
+    nexts: &[Next],
+    out: &mut Vec<u8>,
+) -> Result<(), NoMemory>
+    requires registers { Each (λ (x : Next). x.register.number < length (nets_of whole.now)) nexts.now }
+    requires froms { Each (λ (x : Next). x.from.number < length (nets_of whole.now)) nexts.now }
+    ensures { OnOk result (out.new.items ≡ out.old.items ++ flat_map (always_line (nets_of whole.now)) nexts.now) }
+{
+    for next in nexts {
+        put_next(alloc, whole, *next, out)?;
+    }
+    Ok(())
+}
+
+/// The text of a module.
+fn module_bytes(alloc: Global, whole: &Module) -> Result<Vec<u8>, NoMemory>
+    ensures { IfOk result (λ text. text.items ≡ module_text whole.now) }
+{
+    whole.rules();
+    let name = whole.name().as_str();
+    let first = format!(in alloc; "module {name} (\n  input clk,\n  input rst")?;
+    let mut text = Vec::new(alloc);
+    put(first.as_str(), &mut text)?;
+    put_ports(alloc, whole.ports(), &mut text)?;
+    put("\n);\n", &mut text)?;
+    put_wires(alloc, whole.wires(), &mut text)?;
+    put_regs(alloc, whole.regs(), &mut text)?;
+    put_assigns(alloc, whole, whole.assigns(), &mut text)?;
+    put_nexts(alloc, whole, whole.nexts(), &mut text)?;
+    put("endmodule\n", &mut text)?;
+    Ok(text)
+}
+
+/// Appends the one spelling of a netlist. After an error a front of it was appended.
+pub fn write(alloc: Global, net: &Netlist, out: &mut Vec<u8>) -> Result<(), NoMemory>
+    ensures ok { OnOk result (out.new.items ≡ out.old.items ++ flat_map module_text net.now) }
+    ensures err { OnErr result (AppendsFront (flat_map module_text net.now) out.old.items out.new.items) }
+{
+    let modules = net.modules();
+    for whole in modules {
+        let text = module_bytes(alloc, whole)?;
+        out.extend_from_slice(&text)?;
+    }
+    Ok(())
 }
