@@ -43,7 +43,7 @@ fn read_line(alloc: Global, text: &[u8], part: Span, number: u32) -> Result<Line
     ensures within { IfOk result (λ line. IsLineWithin text.now line) }
 {
     let tokens = tokens(alloc, text, part)?;
-    let clean = part.of(text).iter().all(|byte| is_allowed(*byte));
+    let clean = is_clean(part.of(text));
     Ok(Line {
         number,
         tokens,
@@ -116,6 +116,13 @@ fn is_blank(byte: u8) -> bool
     ensures { result ≡ bytes.is_blank byte }
 {
     byte == b' ' || byte == b'\t'
+}
+
+/// Whether each byte of the line may stand in one.
+fn is_clean(line: &[u8]) -> bool
+    ensures { result ≡ bytes.is_clean line.now }
+{
+    line.iter().all(|byte| is_allowed(*byte))
 }
 
 /// Whether the byte may stand in a line.
