@@ -63,5 +63,5 @@ abbrev pub lines_from : ℕ → List ℕ → List TextLine
 lines_from n text = filter (λ line. not (is_skipped line)) (numbered_from n (slice_split is_line_feed text))
 
 -- the lines of a text that are not skipped
-abbrev pub lines_of : List ℕ → List TextLine
+unfoldable pub lines_of : List ℕ → List TextLine
 lines_of text = lines_from 1 text

@@ -21,6 +21,10 @@ unless_empty part = if nat_lt part.from part.to then part ∷ [] else []
 pub record IsLineWithin (text : List ℕ) (line : Line) : Type 0 where
   pub tokens : All (IsWithin text) line.tokens
 
+-- and so is each token of each line
+pub record AreLinesWithin (text : List ℕ) (lines : List Line) : Type 0 where
+  pub each : All (IsLineWithin text) lines
+
 -- a line whose tokens are spans, as its reader sees it
 abbrev pub line_in : List ℕ → Line → TextLine
 line_in text line = record { number = line.number; tokens = map (bytes_in text) line.tokens; clean = line.clean }

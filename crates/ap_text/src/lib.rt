@@ -12,3 +12,6 @@ pub mod reading;
 pub use line::{Line, LineList, Span, SpanList};
 pub use numbers::{NumberFault, number};
 pub use reading::{NoMemory, lines};
+
+#[cfg(test)]
+mod rows;

@@ -1,5 +1,5 @@
-ghost use Rattle.std.specs.Prelude.{◌≡◌, ◌<◌, ◌≤◌, ◌+◌, ◌*◌, ◌^◌, MatchOption, SomeIff};
-ghost use Rattle.ap_text.specs.Numbers.{spelled_value, digits_in};
+ghost use Rattle.std.specs.Prelude.{◌≡◌, ◌<◌, ◌≤◌, ◌+◌, ◌*◌, ◌^◌, ◌↔◌, MatchOption, MatchResult, SomeIff, IsSomeAnd};
+ghost use Rattle.ap_text.specs.Numbers.{spelled_value, number_value, digits_in};
 
 /// Why a token gives no number.
 #[derive(Clone, Copy, Debug, PartialEq, Eq)]
@@ -10,12 +10,15 @@ pub enum NumberFault {
     TooLarge,
 }
 
+#[tactic(auto, unfolding(crate::specs::Numbers::spelled_value, crate::specs::Numbers::number_value))]
 /// The value that a token spells: decimal digits, or `0x` and hexadecimal digits of either case.
 ///
 /// `BadNumber` comes exactly where the token isn't of that form, and `TooLarge` exactly where it is and its value is
 /// above 2^64 - 1. It takes no memory.
 pub fn number(token: &[u8]) -> Result<u64, NumberFault>
-    ensures { MatchOption (spelled_value token.now) (result ≡ Err NumberFault.BadNumber) (λ v. (v < 2 ^ 64 → result ≡ Ok v) × (2 ^ 64 ≤ v → result ≡ Err NumberFault.TooLarge)) }
+    ensures value { MatchResult result (λ v. number_value token.now ≡ Some v) (λ _. number_value token.now ≡ None) }
+    ensures bad_number { (result ≡ Err NumberFault.BadNumber) ↔ (spelled_value token.now ≡ None) }
+    ensures too_large { (result ≡ Err NumberFault.TooLarge) ↔ IsSomeAnd (spelled_value token.now) (λ v. 2 ^ 64 ≤ v) }
 {
     match token {
         [b'0', b'x', digits @ ..] => value(digits, 16),

@@ -2,7 +2,7 @@ ghost use Rattle.std.specs.Prelude.{◌≡◌, ◌≤◌, ◌++◌, map, positio
 ghost use Rattle.std.specs.List.{before_first};
 ghost use Rattle.ap_text.specs.Lines.{lines_of, tokens_of, text_line, is_comment_sign};
 ghost use Rattle.ap_text.specs.Lines as bytes;
-ghost use Rattle.ap_text.specs.Spans.{IsWithin, IsLineWithin, bytes_in, line_in, unless_empty, unless_bare};
+ghost use Rattle.ap_text.specs.Spans.{IsWithin, IsLineWithin, AreLinesWithin, bytes_in, line_in, unless_empty, unless_bare};
 
 use crate::line::{Line, LineList, Span, SpanList};
 use std::alloc::Global;
@@ -11,13 +11,14 @@ use std::alloc::Global;
 #[derive(Clone, Copy, Debug, PartialEq, Eq)]
 pub struct NoMemory;
 
+#[tactic(auto, unfolding(crate::specs::Lines::lines_of))]
 /// The lines of a text that have tokens or a bad byte.
 ///
 /// A text has at most 67,108,864 bytes. The time that it takes goes with their number.
 pub fn lines(alloc: Global, text: &[u8]) -> Result<LineList, NoMemory>
     requires { length text.now ≤ 67108864 }
     ensures lines { IfOk result (λ list. map (line_in text.now) list ≡ lines_of text.now) }
-    ensures within { IfOk result (λ list. All (IsLineWithin text.now) list) }
+    ensures within { IfOk result (λ list. AreLinesWithin text.now list) }
 {
     let mut list = LineList::new(alloc);
     let mut from = 0;

@@ -20,4 +20,4 @@ returns-clause-lines c =
     rw c.in_ok-add_line-2.ensures (lines_so_far-end _ _ _ _ _ so_far c.in_ok-line-2.ensures.line)
 
 pub returns-clause-within : goal.returns-clause-within
-returns-clause-within c = rw c.in_ok-add_line-2.ensures (lines_so_far-within _ _ _ _ _ _ c.loop-at.invariant c.in_ok-line-2.ensures.within)
+returns-clause-within c = rw c.in_ok-add_line-2.ensures (record { each = lines_so_far-within _ _ _ _ _ _ c.loop-at.invariant c.in_ok-line-2.ensures.within })
