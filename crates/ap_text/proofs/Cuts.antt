@@ -36,8 +36,8 @@ none_between_more p xs from at none fails = record { fails = λ k low high. (eli
 none_of_part : (p : ℕ → Bool) (xs : List ℕ) (from to : ℕ) → to ≤ length xs → NoneBetween p xs from to → All (λ x. p x ≡ false) (slice_range xs from to)
 none_of_part p xs from to room none =
     All-from_get_or (λ x. p x ≡ false) (slice_range xs from to) 0 (λ k h.
-        let inside : from + k < to = omega (arith, length-between xs from to room) in
-        ap p (get_or-between xs from to k 0 inside) ∙ none.fails (from + k) (omega arith) inside)
+    let inside : from + k < to = omega (arith, length-between xs from to room) in
+    ap p (get_or-between xs from to k 0 inside) ∙ none.fails (from + k) (omega arith) inside)
 
 -- the first part ends at the first byte that passes
 pub slice_split_part : (p : ℕ → Bool) (xs : List ℕ) (from at to : ℕ) → from ≤ at → at < to → to ≤ length xs → NoneBetween p xs from at → p (get_or xs at 0) ≡ true → slice_split p (slice_range xs from to) ≡ slice_range xs from at ∷ slice_split p (slice_range xs (at + 1) to)

@@ -4,7 +4,7 @@ use Rattle.std.specs.List.{slice_split}
 use Rattle.std.proofs.lemmas.List.{map-append, append_assoc, append-nil}
 use Rattle.std.proofs.lemmas.List.Elements.{All-push}
 use Rattle.ap_text.specs.declared.line.Line.{Line}
-use Rattle.ap_text.specs.Lines.{TextLine, has_no_token, is_line_feed, is_skipped, lines_from, lines_of, numbered_from, text_line, unless_skipped}
+use Rattle.ap_text.specs.Lines.{has_no_token, is_line_feed, is_skipped, lines_from, lines_of, numbered_from, text_line, unless_skipped}
 use Rattle.ap_text.specs.Spans.{IsLineWithin, bytes_in, line_in, unless_bare}
 use Rattle.ap_text.proofs.Cuts.{NoneBetween, none_between_same, none_between_more, slice_split_part, slice_split_last}
 
@@ -54,7 +54,7 @@ lines_so_far-line_feed text lines number from at line so_far inside ends is_line
   count = omega arith;
   none = none_between_same is_line_feed text (at + 1);
   gives = rw (map-line_added text lines line number (slice_range text from at) is_line)
-    (append_assoc (map (line_in text) lines) _ _ ∙ ap (λ ls. map (line_in text) lines ++ ls) (sym first) ∙ so_far.gives);
+      (append_assoc (map (line_in text) lines) _ _ ∙ ap (λ ls. map (line_in text) lines ++ ls) (sym first) ∙ so_far.gives);
   within = All-unless_bare text lines line within so_far.within;
 } where
   first : lines_from number (slice_range text from (length text)) ≡ unless_skipped (text_line number (slice_range text from at)) ++ lines_from (number + 1) (slice_range text (at + 1) (length text))
@@ -75,8 +75,8 @@ pub lines_so_far-end : (text : List ℕ) (lines : List Line) (number from : ℕ)
 lines_so_far-end text lines number from line so_far is_line =
     map-line_added text lines line number (slice_range text from (length text)) is_line
     ∙ ap (λ ls. map (line_in text) lines ++ ls) (sym last) ∙ so_far.gives where
-  last : lines_from number (slice_range text from (length text)) ≡ unless_skipped (text_line number (slice_range text from (length text)))
-  last = ap (λ parts. filter (λ l. not (is_skipped l)) (numbered_from number parts)) (slice_split_last is_line_feed text from (length text) (omega arith) so_far.none) ∙ filter-numbered number (slice_range text from (length text)) [] ∙ append-nil _
+      last : lines_from number (slice_range text from (length text)) ≡ unless_skipped (text_line number (slice_range text from (length text)))
+      last = ap (λ parts. filter (λ l. not (is_skipped l)) (numbered_from number parts)) (slice_split_last is_line_feed text from (length text) (omega arith) so_far.none) ∙ filter-numbered number (slice_range text from (length text)) [] ∙ append-nil _
 
 pub lines_so_far-within : (text : List ℕ) (lines : List Line) (number from at : ℕ) (line : Line) → LinesSoFar text lines number from at → IsLineWithin text line → All (IsLineWithin text) (lines ++ unless_bare line)
 lines_so_far-within text lines number from at line so_far within = All-unless_bare text lines line within so_far.within

@@ -1,5 +1,5 @@
 -- The tokens of a line, as far as a loop has come that cuts it at its blanks.
-use Rattle.std.proofs.Common.{◌≡◌, ℕ, ◌+◌, ◌-◌, ◌<◌, ◌≤◌, Bool, true, false, cond, List, [], ◌∷◌, ◌++◌, length, get_or, map, filter, All, slice_range, nat_lt, refl, sym, ap, ◌∙◌, arith, rules}
+use Rattle.std.proofs.Common.{◌≡◌, ℕ, ◌+◌, ◌-◌, ◌<◌, ◌≤◌, Bool, true, false, cond, List, [], ◌∷◌, ◌++◌, length, get_or, map, filter, All, slice_range, nat_lt, refl, sym, ap, ◌∙◌, arith}
 use Rattle.std.specs.List.{slice_split}
 use Rattle.std.proofs.lemmas.List.{map-append, append_assoc, append-nil}
 use Rattle.std.proofs.lemmas.List.Edits.{length-between}
@@ -51,7 +51,7 @@ tokens_so_far-blank text code spans from at so_far high room blank = record {
   order = omega arith;
   none = none_between_same is_blank text (at + 1);
   gives = rw (map-append (bytes_in text) spans (unless_empty (record { from = from; to = at })))
-    (append_assoc (map (bytes_in text) spans) _ _ ∙ ap (λ ts. map (bytes_in text) spans ++ ts) (sym first) ∙ so_far.gives);
+      (append_assoc (map (bytes_in text) spans) _ _ ∙ ap (λ ts. map (bytes_in text) spans ++ ts) (sym first) ∙ so_far.gives);
   within = All-unless_empty text spans from at so_far.order (omega arith) so_far.within;
 } where
   first : tokens_between text from code.to ≡ map (bytes_in text) (unless_empty (record { from = from; to = at })) ++ tokens_between text (at + 1) code.to
@@ -71,8 +71,8 @@ tokens_so_far-other text code spans from at so_far other = record {
 pub tokens_so_far-end : (text : List ℕ) (code : Span) (spans : List Span) (from : ℕ) → TokensSoFar text code spans from code.to → code.to ≤ length text → map (bytes_in text) (spans ++ unless_empty (record { from = from; to = code.to })) ≡ tokens_between text code.from code.to
 tokens_so_far-end text code spans from so_far room =
     map-append (bytes_in text) spans (unless_empty (record { from = from; to = code.to })) ∙ ap (λ ts. map (bytes_in text) spans ++ ts) (sym last) ∙ so_far.gives where
-  last : tokens_between text from code.to ≡ map (bytes_in text) (unless_empty (record { from = from; to = code.to }))
-  last = ap (filter is_token) (slice_split_last is_blank text from code.to room so_far.none) ∙ filter-part text from code.to [] room ∙ append-nil _
+      last : tokens_between text from code.to ≡ map (bytes_in text) (unless_empty (record { from = from; to = code.to }))
+      last = ap (filter is_token) (slice_split_last is_blank text from code.to room so_far.none) ∙ filter-part text from code.to [] room ∙ append-nil _
 
 pub tokens_so_far-within : (text : List ℕ) (code : Span) (spans : List Span) (from : ℕ) → TokensSoFar text code spans from code.to → code.to ≤ length text → All (IsWithin text) (spans ++ unless_empty (record { from = from; to = code.to }))
 tokens_so_far-within text code spans from so_far room = All-unless_empty text spans from code.to so_far.order room so_far.within

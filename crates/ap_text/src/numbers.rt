@@ -10,11 +10,11 @@ pub enum NumberFault {
     TooLarge,
 }
 
-#[tactic(auto, unfolding(crate::specs::Numbers::spelled_value, crate::specs::Numbers::number_value))]
 /// The value that a token spells: decimal digits, or `0x` and hexadecimal digits of either case.
 ///
 /// `BadNumber` comes exactly where the token isn't of that form, and `TooLarge` exactly where it is and its value is
 /// above 2^64 - 1. It takes no memory.
+#[tactic(auto, unfolding(crate::specs::Numbers::spelled_value, crate::specs::Numbers::number_value))]
 pub fn number(token: &[u8]) -> Result<u64, NumberFault>
     ensures value { MatchResult result (λ v. number_value token.now ≡ Some v) (λ _. number_value token.now ≡ None) }
     ensures bad_number { (result ≡ Err NumberFault.BadNumber) ↔ (spelled_value token.now ≡ None) }
@@ -37,7 +37,9 @@ fn value(digits: &[u8], base: u32) -> Result<u64, NumberFault>
     }
     let mut value = Some(0u64);
     for byte in digits {
-        let digit = char::from(*byte).to_digit(base).ok_or(NumberFault::BadNumber)?;
+        let digit = char::from(*byte)
+            .to_digit(base)
+            .ok_or(NumberFault::BadNumber)?;
         value = value.and_then(|front| appended(front, base, digit));
     }
     value.ok_or(NumberFault::TooLarge)

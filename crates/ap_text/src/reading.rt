@@ -11,10 +11,10 @@ use std::alloc::Global;
 #[derive(Clone, Copy, Debug, PartialEq, Eq)]
 pub struct NoMemory;
 
-#[tactic(auto, unfolding(crate::specs::Lines::lines_of))]
 /// The lines of a text that have tokens or a bad byte.
 ///
 /// A text has at most 67,108,864 bytes. The time that it takes goes with their number.
+#[tactic(auto, unfolding(crate::specs::Lines::lines_of))]
 pub fn lines(alloc: Global, text: &[u8]) -> Result<LineList, NoMemory>
     requires { length text.now ≤ 67108864 }
     ensures lines { IfOk result (λ list. map (line_in text.now) list ≡ lines_of text.now) }

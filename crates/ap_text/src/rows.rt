@@ -12,22 +12,19 @@ use std::test::Fail;
 #[tactic(auto, unfolding(crate::specs::Lines::lines_of))]
 fn skips()
     ensures { lines_of (codes "a b # c\n\n\tx\n") ≡ record { number = 1; tokens = codes "a" ∷ codes "b" ∷ []; clean = true } ∷ record { number = 3; tokens = codes "x" ∷ []; clean = true } ∷ [] }
-{
-}
+{}
 
 /// A carriage return belongs to its token, and its line isn't clean.
 #[tactic(auto, unfolding(crate::specs::Lines::lines_of))]
 fn keeps_carriage_return()
     ensures { lines_of (codes "end\r\n") ≡ record { number = 1; tokens = codes "end\r" ∷ []; clean = false } ∷ [] }
-{
-}
+{}
 
 /// A line with a bad byte in its comment stands in the list.
 #[tactic(auto, unfolding(crate::specs::Lines::lines_of))]
 fn keeps_bad_comment()
     ensures { lines_of (codes "\n #\r\n# fine") ≡ record { number = 2; tokens = []; clean = false } ∷ [] }
-{
-}
+{}
 
 /// Digits of either case, and leading zeros.
 #[tactic(auto, unfolding(crate::specs::Numbers::spelled_value))]
@@ -37,8 +34,7 @@ fn spells()
     ensures zeros { spelled_value (codes "007") ≡ Some 7 }
     ensures zero { spelled_value (codes "0") ≡ Some 0 }
     ensures large { spelled_value (codes "18446744073709551616") ≡ Some (2 ^ 64) }
-{
-}
+{}
 
 /// What is no number.
 #[tactic(auto, unfolding(crate::specs::Numbers::spelled_value))]
@@ -48,8 +44,7 @@ fn spells_nothing()
     ensures bare { spelled_value (codes "0x") ≡ None }
     ensures sign { spelled_value (codes "-1") ≡ None }
     ensures letter { spelled_value (codes "1F") ≡ None }
-{
-}
+{}
 
 /// A line of a table: its number, its tokens, and whether it is clean.
 type Row<'a> = (u32, &'a [&'a [u8]], bool);
@@ -82,7 +77,12 @@ fn reads_lines(rt: HostRuntime) -> Result<(), Fail> {
     let alloc = rt.alloc();
     expect_lines(&rt, alloc, b"", &[])?;
     let text = b"a b # c\n\n\tx\n";
-    expect_lines(&rt, alloc, text, &[(1, &[b"a", b"b"], true), (3, &[b"x"], true)])?;
+    expect_lines(
+        &rt,
+        alloc,
+        text,
+        &[(1, &[b"a", b"b"], true), (3, &[b"x"], true)],
+    )?;
     expect_lines(&rt, alloc, b"end\r\n", &[(1, &[b"end\r"], false)])?;
     expect_lines(&rt, alloc, b"\n #\r\n# fine", &[(2, &[], false)])?;
     Ok(())
@@ -96,7 +96,10 @@ fn reads_numbers(rt: HostRuntime) {
     assert_eq!(rt; number(b"0xFFFFffffFFFFffff"), Ok(u64::MAX));
     assert_eq!(rt; number(b"18446744073709551616"), Err(NumberFault::TooLarge));
     assert_eq!(rt; number(b"0x10000000000000000"), Err(NumberFault::TooLarge));
-    assert_eq!(rt; number(b"99999999999999999999x"), Err(NumberFault::BadNumber));
+    assert_eq!(rt;
+        number(b"99999999999999999999x"),
+        Err(NumberFault::BadNumber)
+    );
     assert_eq!(rt; number(b"0X8"), Err(NumberFault::BadNumber));
     assert_eq!(rt; number(b"0x"), Err(NumberFault::BadNumber));
     assert_eq!(rt; number(b""), Err(NumberFault::BadNumber));

@@ -1,4 +1,4 @@
-use Rattle.std.proofs.Common.{◌≡◌, ◌+◌, ◌≤◌, arith}
+use Rattle.std.proofs.Common.{◌≡◌, arith}
 use Rattle.std.specs.List.{position_or_len}
 use Rattle.ap_text.specs.Lines.{is_comment_sign}
 use Rattle.ap_text.specs.Spans.{bytes_in}
