@@ -11,9 +11,10 @@ use std::alloc::Global;
 #[derive(Clone, Copy, Debug, PartialEq, Eq)]
 pub struct NoMemory;
 
-/// The lines of a text that have tokens or a bad byte.
+/// The lines of a text of at most 67,108,864 bytes that have tokens or a bad byte.
 ///
-/// A text has at most 67,108,864 bytes. The time that it takes goes with their number.
+/// Each line ends with a line feed, which the last may lack; all are counted, from 1. Every span of a token is a part
+/// of this text. `NoMemory` comes only where memory ran out. The time goes with the number of bytes.
 #[tactic(auto, unfolding(crate::specs::Lines::lines_of))]
 pub fn lines(alloc: Global, text: &[u8]) -> Result<LineList, NoMemory>
     requires { length text.now ≤ 67108864 }

@@ -1,5 +1,5 @@
 //! Worked rows: what the definitions say of small texts and tokens, and what the calls answer.
-ghost use Rattle.std.specs.Prelude.{◌≡◌, ◌^◌, [], ◌∷◌, ◌≤◌, length, codes, true, false, Some, None};
+ghost use Rattle.std.specs.Prelude.{◌≡◌, ◌^◌, ◌-◌, [], ◌∷◌, ◌≤◌, length, codes, true, false, Some, None};
 ghost use Rattle.ap_text.specs.Lines.{lines_of};
 ghost use Rattle.ap_text.specs.Numbers.{spelled_value};
 
@@ -33,6 +33,7 @@ fn spells()
     ensures lower { spelled_value (codes "0xff") ≡ Some 255 }
     ensures zeros { spelled_value (codes "007") ≡ Some 7 }
     ensures zero { spelled_value (codes "0") ≡ Some 0 }
+    ensures largest { spelled_value (codes "18446744073709551615") ≡ Some (2 ^ 64 - 1) }
     ensures large { spelled_value (codes "18446744073709551616") ≡ Some (2 ^ 64) }
 {}
 
