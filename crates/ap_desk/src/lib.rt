@@ -6,4 +6,5 @@ pub mod desk;
 pub mod memory;
 pub mod pieces;
 pub mod sure;
+pub mod system;
 mod table;

@@ -11,6 +11,6 @@ returns-in-Some-clause-found c =
 pub returns-in-Some-clause-none : goal.returns-in-Some-clause-none
 returns-in-Some-clause-none c =
     let there : get (files_of c.args.files.now) c.args.name.now ≡ Some c.as_slice.result.now =
-      get_file _ _ _ c.index-files-i.result c.in-Some.ensures.found.0 ∙ ap Some (sym c.as_slice.ensures.value)
+    get_file _ _ _ c.index-files-i.result c.in-Some.ensures.found.0 ∙ ap Some (sym c.as_slice.ensures.value)
     in
     ((λ e. cc), (λ e. cc))
