@@ -8,3 +8,5 @@ pub mod pieces;
 pub mod sure;
 pub mod system;
 mod table;
+#[cfg(test)]
+mod tests;
