@@ -1,0 +1,4 @@
+pub mod Maps
+pub mod Steps
+pub mod Stored
+pub mod Whole
