@@ -1,5 +1,5 @@
 -- Named files, as a finite map from the bytes of a name to the bytes of the file, and what one call does to them.
-use Rattle.std.specs.Prelude.{◌≡◌, ◌≢◌, ℕ, ◌≤◌, List, [], ◌∷◌, ◌++◌, length, take, drop, Option, Some, None, unwrap_or, ◌⊎◌}
+use Rattle.std.specs.Prelude.{◌≡◌, ◌≢◌, ℕ, ◌<◌, ◌≤◌, List, [], ◌∷◌, ◌++◌, length, take, drop, Option, Some, None, unwrap_or, ◌⊎◌, ◌↔◌}
 use Rattle.std.specs.Ordering.{nat_cmp}
 use Rattle.std.specs.Cmp.Lexicographic.{slice_cmp}
 use Rattle.std.specs.FinMap.{FinMap, get, insert}
@@ -50,3 +50,15 @@ pub record Reads (files : Files) (name : List ℕ) (at n : ℕ) (new : List ℕ)
   pub within : n ≤ length (drop at (content files name))
   pub bytes : take n new ≡ take n (drop at (content files name))
   pub end : n ≡ 0 → (length new ≡ 0) ⊎ (length (content files name) ≤ at)
+
+-- where the desk tells its files, the file is there
+abbrev pub Stands : List ℕ → Option Files → Type 0
+Stands name None = Unit {0}
+Stands name (Some files) = get files name ≡ Some (content files name)
+
+-- the bytes are the whole file, or a front of it longer than the limit where the file is longer than that
+pub record ReadsUpTo (files : Files) (name : List ℕ) (limit : ℕ) (bytes : List ℕ) : Type 0 where
+  pub there : get files name ≡ Some (content files name)
+  pub front : bytes ≡ take (length bytes) (content files name)
+  pub whole : length (content files name) ≤ limit → bytes ≡ content files name
+  pub longer : limit < length bytes ↔ limit < length (content files name)

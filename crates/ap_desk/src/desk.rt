@@ -2,6 +2,9 @@ ghost use Rattle.std.specs.Prelude.{◌≡◌, ◌≢◌, ℕ, ◌≤◌, [], le
 ghost use Rattle.std.specs.FinMap as map;
 ghost use Rattle.ap_desk.specs.Files.{Files, IsFileName, Goes, Reads, Becomes, BecomesEmptyOrStays, Gains, GainsFront};
 ghost use Rattle.ap_desk.specs.Causes.{HasCause};
+ghost use Rattle.ap_desk.specs.declared.desk.DeskFault.TheVariants.{NoMemory};
+
+use std::alloc::AllocError;
 
 /// Why a call of a desk gave up.
 #[derive(Clone, Copy, Debug, PartialEq, Eq)]
@@ -12,6 +15,14 @@ pub enum DeskFault {
     Missing,
     /// Memory ran out.
     NoMemory,
+}
+
+impl From<AllocError> for DeskFault {
+    ghost from_gives = { λ _ e. e ≡ NoMemory };
+
+    fn from(_: AllocError) -> DeskFault {
+        DeskFault::NoMemory
+    }
 }
 
 /// Named files, and standard output under the name `-`, which is only appended to.
