@@ -2,3 +2,15 @@
 #![tactic(auto)]
 
 pub mod command;
+pub mod design;
+pub mod form;
+mod generate;
+mod output;
+mod printing;
+pub mod refusal;
+pub mod serve;
+
+
+/// Memory ran out.
+#[derive(Clone, Copy, Debug, PartialEq, Eq)]
+pub struct NoMemory;
