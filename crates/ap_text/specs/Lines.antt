@@ -45,11 +45,23 @@ has_no_token (token ∷ tokens) = false
 abbrev pub is_skipped : TextLine → Bool
 is_skipped line = has_no_token line.tokens && line.clean
 
+-- the line of these bytes with this number
+abbrev pub text_line : ℕ → List ℕ → TextLine
+text_line n line = record { number = n; tokens = tokens_of line; clean = is_clean line }
+
+-- what stands of a line in the list: nothing where it is skipped
+abbrev pub unless_skipped : TextLine → List TextLine
+unless_skipped line = filter (λ line. not (is_skipped line)) (line ∷ [])
+
 -- the lines from this number on
 abbrev pub numbered_from : ℕ → List (List ℕ) → List TextLine
 numbered_from n [] = []
-numbered_from n (line ∷ lines) = record { number = n; tokens = tokens_of line; clean = is_clean line } ∷ numbered_from (n + 1) lines
+numbered_from n (line ∷ lines) = text_line n line ∷ numbered_from (n + 1) lines
+
+-- the lines of what is left of a text, from this number on, that are not skipped
+abbrev pub lines_from : ℕ → List ℕ → List TextLine
+lines_from n text = filter (λ line. not (is_skipped line)) (numbered_from n (slice_split is_line_feed text))
 
 -- the lines of a text that are not skipped
-abbrev pub lines_of : List ℕ → List TextLine
-lines_of text = filter (λ line. not (is_skipped line)) (numbered_from 1 (slice_split is_line_feed text))
+unfoldable pub lines_of : List ℕ → List TextLine
+lines_of text = lines_from 1 text
