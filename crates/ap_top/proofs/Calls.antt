@@ -1,6 +1,6 @@
 -- The command that writes Verilog, as one row of the table: from its own input and output to those of its words.
-use Rattle.std.proofs.Common.{◌≡◌, ◌≢◌, ℕ, suc, zero, List, [], ◌∷◌, length, get_or, map, Some, None, Option, Result, Ok, Err, refl, sym, ap, subst, inl, inr, ⊎_elim, ◌∙◌, arith}
-use Rattle.std.specs.Prelude.{◌⊎◌, OnOk, IfErr}
+use Rattle.std.proofs.Common.{◌≡◌, ◌≢◌, ℕ, List, [], ◌∷◌, length, get_or, map, Some, None, Option, Result, Ok, Err, sym, ap, subst, ◌∙◌, arith}
+use Rattle.std.specs.Prelude.{OnOk, IfErr}
 use Rattle.ap_desk.specs.Files.{Files, Goes}
 use Rattle.ap_top.specs.declared.command.Command.{Command}
 use Rattle.ap_top.specs.declared.command.Command.TheVariants.{Gen}
@@ -10,7 +10,7 @@ use Rattle.ap_top.specs.declared.refusal.Stop.TheVariants.{Refused, Broken}
 use Rattle.ap_top.specs.Commands.{IsCall, slots_of}
 use Rattle.ap_top.specs.Inputs.{inputs_of, IsDueOf}
 use Rattle.ap_top.specs.Outputs.{outputs_of, FromGood, Writes, IsBegunOn}
-use Rattle.ap_top.specs.Endings.{IsDone, IsBegun}
+use Rattle.ap_top.specs.Endings.{IsDone}
 use Rattle.ap_top.specs.Generate.{gen_sources, gen_targets}
 use Rattle.ap_top.specs.Troubles.{StopsOn, StopsAs}
 

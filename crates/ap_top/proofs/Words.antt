@@ -1,6 +1,6 @@
 -- A loop over a list that looks at each element: what holds of the rest holds of all where it held of each so far.
-use Rattle.std.proofs.Common.{◌≡◌, ◌≢◌, ◌↔◌, ℕ, suc, zero, ◌+◌, ◌<◌, ◌≤◌, List, [], ◌∷◌, length, get_or, take, drop, map, refl, sym, ap, subst, ◌∙◌, arith, add-one, length-drop, ◌-◌, IsTrue, true, false, rules}
-use Rattle.std.proofs.Math.Seq.{drop-cons, drop-nil}
+use Rattle.std.proofs.Common.{◌≡◌, ◌↔◌, ℕ, suc, zero, ◌+◌, ◌<◌, ◌≤◌, List, [], ◌∷◌, length, get_or, take, drop, map, refl, sym, ap, subst, ◌∙◌, arith, add-one, length-drop, ◌-◌, IsTrue, true, false}
+use Rattle.std.proofs.Math.Seq.{drop-cons}
 use Rattle.std.proofs.Math.ListN.{length-map}
 use Rattle.std.proofs.lemmas.List.{drop_all, take_all, get_or-map, get_or_default}
 use Rattle.std.proofs.lemmas.Slice.Zip.{get_or-zip, length-zip}
@@ -30,7 +30,6 @@ each_end P xs i le same = ((λ _. same.0 (subst (Each P) (sym (drop_all i xs le)
 -- an element of a list, as one of the list of its views
 pub view_at : {X Y : Type 0} (f : X → Y) (xs : List X) (i : ℕ) (x : X) → i < length xs → x ≡ get_or xs i x → f x ≡ get_or (map f xs) i (f x)
 view_at f xs i x lt e = ap f e ∙ sym (get_or-map f xs i x (f x) lt)
-
 
 pub word_step : {X Y : Type 0} (P : Y → Type 0) (f : X → Y) (xs : List X) (i : ℕ) (x : X) (y : Y) → i < length xs → x ≡ get_or xs i x → y ≡ f x → P y → (Each P (drop i (map f xs)) ↔ Each P (map f xs)) → (Each P (drop (i + 1) (map f xs)) ↔ Each P (map f xs))
 word_step P f xs i x y lt e g holds same = each_step P (map f xs) i (f x) (simp length-map lt) (view_at f xs i x lt e) (subst P g holds) same

@@ -1,10 +1,8 @@
 -- The commands of the program: a table of their names and of what each further word stands for, and which words are a command.
-use Rattle.std.specs.Prelude.{◌≡◌, ◌⊎◌, ℕ, List, [], ◌∷◌, length, codes}
+use Rattle.std.specs.Prelude.{◌≡◌, ℕ, List, [], ◌∷◌, length, codes}
 use Rattle.std.specs.List.{AllByRecursion as Each, zip}
 use Rattle.ap_desk.specs.Files.{IsFileName}
-use Rattle.ap_top.specs.declared.command.Input.{Input}
 use Rattle.ap_top.specs.declared.command.Input.TheVariants.{Description}
-use Rattle.ap_top.specs.declared.command.Output.{Output}
 use Rattle.ap_top.specs.declared.command.Output.TheVariants.{Verilog}
 use Rattle.ap_top.specs.declared.command.Slot.{Slot}
 use Rattle.ap_top.specs.declared.command.Slot.TheVariants as slot

@@ -1,10 +1,10 @@
 -- The one form of description that is built today: fifteen lines in which six letters stand for numbers.
 use Rattle.std.specs.Prelude.{◌≡◌, ℕ, ◌≤◌, ◌<◌, ◌^◌, List, [], ◌∷◌, ◌++◌, length, codes, IsTrue, Some}
 use Rattle.ap_text.specs.Lines.{TextLine, lines_of}
-use Rattle.ap_text.specs.Numbers.{spelled_value}
+use Rattle.ap_text.specs.Numbers.{number_value}
 use Rattle.ap_top.specs.declared.form.Form.{Form}
-use Rattle.ap_top.specs.declared.form.Letter.{Letter}
-use Rattle.ap_top.specs.declared.form.Letter.TheVariants.{Address, Word, Width, Start, Code, Constant}
+use Rattle.ap_top.specs.declared.pattern.Letter.{Letter}
+use Rattle.ap_top.specs.declared.pattern.Letter.TheVariants.{Address, Word, Width, Start, Code, Constant}
 use Rattle.ap_top.specs.declared.form.ReadFault.{ReadFault}
 use Rattle.ap_top.specs.declared.form.ReadFault.TheVariants.{Refused, NoMemory}
 use Rattle.ap_top.specs.declared.form.Judged.{Judged}
@@ -18,6 +18,15 @@ value_of form Width = form.width
 value_of form Start = form.start
 value_of form Code = form.code
 value_of form Constant = form.constant
+
+-- the place of a letter among them
+abbrev pub place_of : Letter → ℕ
+place_of Address = 0
+place_of Word = 1
+place_of Width = 2
+place_of Start = 3
+place_of Code = 4
+place_of Constant = 5
 
 -- a token of the form: exactly these bytes, or these bytes directly followed by a number for this letter
 pub data Token : Type 0 where
@@ -50,23 +59,31 @@ first_form =
 -- the token is the one due, with this form's numbers
 abbrev pub IsToken : Form → Token → List ℕ → Type 0
 IsToken form (exactly bytes) token = token ≡ bytes
-IsToken form (tagged bytes letter) token = (digits : List ℕ) × (token ≡ bytes ++ digits) × (spelled_value digits ≡ Some (value_of form letter))
+IsToken form (tagged bytes letter) token = (digits : List ℕ) × (token ≡ bytes ++ digits) × (number_value digits ≡ Some (value_of form letter))
 
--- the tokens of a line are those due
-abbrev pub AreTokens : Form → List Token → List (List ℕ) → Type 0
-AreTokens form [] [] = Unit {0}
-AreTokens form [] (token ∷ tokens) = ⊥
-AreTokens form (due ∷ dues) [] = ⊥
-AreTokens form (due ∷ dues) (token ∷ tokens) = IsToken form due token × AreTokens form dues tokens
+-- this holds of each two that stand beside each other, and neither list is longer
+abbrev pub EachBeside : {X Y : Type 0} → (X → Y → Type 0) → List X → List Y → Type 0
+EachBeside R [] [] = Unit {0}
+EachBeside R [] (y ∷ ys) = ⊥
+EachBeside R (x ∷ xs) [] = ⊥
+EachBeside R (x ∷ xs) (y ∷ ys) = R x y × EachBeside R xs ys
 
--- the lines are those due, and none of them is bad
+-- the line isn't bad, and its tokens are those due
+abbrev pub IsLine : Form → List Token → TextLine → Type 0
+IsLine form dues line = IsTrue line.clean × EachBeside (IsToken form) dues line.tokens
+
+-- the lines are those due
 abbrev pub AreLines : Form → List (List Token) → List TextLine → Type 0
-AreLines form [] [] = Unit {0}
-AreLines form [] (line ∷ lines) = ⊥
-AreLines form (due ∷ dues) [] = ⊥
-AreLines form (due ∷ dues) (line ∷ lines) = IsTrue line.clean × AreTokens form due line.tokens × AreLines form dues lines
+AreLines form dues lines = EachBeside (IsLine form) dues lines
 
--- the form's numbers are within their ranges
+-- the start, the code and the constant are within their ranges
+pub record AreValuesFitting (form : Form) : Type 0 where
+  pub start : form.start < 2 ^ form.width
+  pub code_low : 1 ≤ form.code
+  pub code_high : form.code < 2 ^ form.word
+  pub constant : form.constant < 2 ^ form.width
+
+-- all six numbers are
 pub record IsForm (form : Form) : Type 0 where
   pub address_low : 4 ≤ form.address
   pub address_high : form.address ≤ 16
@@ -74,10 +91,7 @@ pub record IsForm (form : Form) : Type 0 where
   pub word_high : form.word ≤ 64
   pub width_low : 1 ≤ form.width
   pub width_high : form.width ≤ 64
-  pub start : form.start < 2 ^ form.width
-  pub code_low : 1 ≤ form.code
-  pub code_high : form.code < 2 ^ form.word
-  pub constant : form.constant < 2 ^ form.width
+  pub values : AreValuesFitting form
 
 -- the most bytes that a description may have
 abbrev pub description_limit : ℕ

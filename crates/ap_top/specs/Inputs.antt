@@ -1,5 +1,5 @@
 -- The inputs of a command: which are there, which have a fault, and which of them is reached. They are taken in the command's order.
-use Rattle.std.specs.Prelude.{◌≡◌, ◌⊎◌, ℕ, List, [], ◌∷◌, ◌++◌, drop, map, Option, None, Some, IfSome}
+use Rattle.std.specs.Prelude.{◌≡◌, ◌⊎◌, ℕ, List, [], ◌∷◌, ◌++◌, drop, Option, None, Some, IfSome}
 use Rattle.std.specs.FinMap.{get}
 use Rattle.ap_desk.specs.Files.{Files, content}
 use Rattle.ap_desk.specs.Causes.{Rose}

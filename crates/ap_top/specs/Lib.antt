@@ -1,5 +1,6 @@
 pub mod Commands
 pub mod Form
+pub mod Found
 pub mod DesignText
 pub mod Refusals
 pub mod Inputs

@@ -7,10 +7,10 @@ use Rattle.ap_top.specs.declared.command.Output.TheVariants.{Verilog}
 use Rattle.ap_top.specs.declared.command.Slot.TheVariants as slot
 use Rattle.ap_top.specs.declared.command.Command.{Command}
 use Rattle.ap_top.specs.declared.form.Form.{Form}
-use Rattle.ap_top.specs.Commands.{Operand, IsCall, operands_of}
+use Rattle.ap_top.specs.Commands.{Operand, operands_of}
 use Rattle.ap_top.specs.Form.{IsDescription}
 use Rattle.ap_top.specs.DesignText.{IsDesignText}
-use Rattle.ap_top.specs.Inputs.{Source, inputs_of, AreGood}
+use Rattle.ap_top.specs.Inputs.{Source, AreGood}
 
 -- an output: what its text is to hold, and the file's name
 abbrev pub Target : Type 0

@@ -1,7 +1,6 @@
 -- Why a part of a call gave up, by the desk's counts, and what it left.
-use Rattle.std.specs.Prelude.{◌≡◌, ◌⊎◌, ℕ, ◌≤◌, List, Option, Result, Ok, Err}
+use Rattle.std.specs.Prelude.{◌≡◌, ℕ, ◌≤◌, List, Option, Result, Err}
 use Rattle.ap_desk.specs.Files.{Files, Goes}
-use Rattle.ap_top.specs.declared.refusal.Trouble.{Trouble}
 use Rattle.ap_top.specs.declared.refusal.Trouble.TheVariants.{Desk}
 use Rattle.ap_top.specs.declared.refusal.Stop.{Stop}
 use Rattle.ap_top.specs.declared.refusal.Stop.TheVariants.{Refused, Broken}

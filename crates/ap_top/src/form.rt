@@ -1,26 +1,14 @@
-ghost use Rattle.std.specs.Prelude.{◌≡◌, IfOk, IfErr};
+ghost use Rattle.std.specs.Prelude.{◌≡◌, IfErr, IfNone, IfOk, IfSome, List, map};
+ghost use Rattle.ap_text.specs.Spans.{AreLinesWithin, line_in};
+ghost use Rattle.ap_top.specs.Form.{AreLines, IsDescription, IsForm, IsReadFault, first_form};
 
+use crate::numbers::Numbers;
+use crate::pattern;
+use ap_text::{Line, lines};
 use std::alloc::Global;
 
 /// The most bytes that a description may have.
 pub const DESCRIPTION_LIMIT: usize = 1_048_576;
-
-/// A letter of the first form, which stands for a number.
-#[derive(Clone, Copy, Debug, PartialEq, Eq)]
-pub enum Letter {
-    /// Bits of a code address, from 4 to 16.
-    Address,
-    /// Bits of a code word, from 8 to 64.
-    Word,
-    /// Bits of the register, the adder and the constant, from 1 to 64.
-    Width,
-    /// The register's value at the start, below 2 to the width.
-    Start,
-    /// The value of the field `op` in the adding instruction, from 1 to 2 to the word less 1.
-    Code,
-    /// What the adding instruction adds, below 2 to the width.
-    Constant,
-}
 
 /// A description of the first form: its six numbers.
 #[derive(Clone, Copy, Debug, PartialEq, Eq)]
@@ -60,9 +48,9 @@ pub enum ReadFault {
     NoMemory,
 }
 
-ghost use Rattle.ap_top.specs.Form.{IsDescription, IsReadFault};
-
 /// The form of a description.
+///
+/// A text of more than 1,048,576 bytes is `TooLong`. Any other text that isn't of the first form is `NotBuilt`, at line 0.
 pub fn judge(alloc: Global, text: &[u8]) -> Result<Form, ReadFault>
     ensures form { IfOk result (IsDescription text.now) }
     ensures refused { IfErr result (IsReadFault text.now) }
@@ -70,5 +58,30 @@ pub fn judge(alloc: Global, text: &[u8]) -> Result<Form, ReadFault>
     if text.len() > DESCRIPTION_LIMIT {
         return Err(ReadFault::Refused(Judged::TooLong));
     }
-    Err(ReadFault::NoMemory)
+    let Ok(lines) = lines(alloc, text) else {
+        return Err(ReadFault::NoMemory);
+    };
+    match read_form(text, lines.as_slice()) {
+        Some(form) => Ok(form),
+        None => Err(ReadFault::Refused(Judged::NotBuilt { line: 0 })),
+    }
+}
+
+/// The first form with the numbers of these lines, if they are its lines.
+fn read_form(text: &[u8], lines: &[Line]) -> Option<Form>
+    requires { AreLinesWithin text.now lines.now }
+    ensures some { IfSome result (λ form. AreLines form first_form (map (line_in text.now) lines.now) × IsForm form) }
+    ensures none { IfNone result ((form : Form) → AreLines form first_form (map (line_in text.now) lines.now) → IsForm form → ⊥) }
+{
+    let due = pattern::first_form();
+    if lines.len() != due.len() {
+        return None;
+    }
+    let mut numbers = Numbers::new();
+    for (i, pieces) in due.iter().enumerate() {
+        if !numbers.take_line(text, &lines[i], pieces) {
+            return None;
+        }
+    }
+    numbers.form()
 }

@@ -5,11 +5,12 @@ pub mod command;
 pub mod design;
 pub mod form;
 mod generate;
+mod numbers;
 mod output;
+pub mod pattern;
 mod printing;
 pub mod refusal;
 pub mod serve;
-
 
 /// Memory ran out.
 #[derive(Clone, Copy, Debug, PartialEq, Eq)]

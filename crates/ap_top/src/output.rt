@@ -9,11 +9,7 @@ use ap_desk::desk::Desk;
 use ap_desk::pieces::append_all;
 
 /// Makes the file and writes the text to it, in pieces. After an error the file is as it was or holds a front of the text.
-pub(crate) fn write_output<D: Desk>(
-    name: &str,
-    text: &[u8],
-    desk: &mut D,
-) -> Result<(), Trouble>
+pub(crate) fn write_output<D: Desk>(name: &str, text: &[u8], desk: &mut D) -> Result<(), Trouble>
     requires { IsFileName name.now }
     ensures ok { OnOk result (Goes (Becomes name.now text.now) (D.files desk.old) (D.files desk.new)) }
     ensures err { OnErr result (Goes (BecomesFront name.now text.now) (D.files desk.old) (D.files desk.new)) }

@@ -1,6 +1,4 @@
-use Rattle.std.proofs.Common.{map}
 use Rattle.std.specs.String.{string_bytes}
-use Rattle.std.specs.List.{zip}
 use Rattle.ap_top.specs.Commands.{MayStandWith}
 use Rattle.ap_top.proofs.Words.{each_step, each_stop, each_end, pair_at, in_pairs, past_pairs}
 use Rattle.ap_top.proofs.command.may_stand_before.Goals as goal

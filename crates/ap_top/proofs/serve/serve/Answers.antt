@@ -1,6 +1,6 @@
 use Rattle.std.proofs.Common.{map}
 use Rattle.std.specs.String.{string_bytes}
-use Rattle.ap_top.proofs.Statuses.{stopped_by}
+use Rattle.ap_top.proofs.Stopping.{stopped_by}
 use Rattle.ap_top.proofs.serve.serve.Goals as goal
 
 pub returns-in-Err-clause-stopped : goal.returns-in-Err-clause-stopped
