@@ -23,10 +23,10 @@ unfolding tied
 tied_same q = (subst (λ b. Decides b (q ≡ q)) (sym (is_eq-slice_cmp q q)) (bytes_eq-Decides q q)).1 refl
 
 -- what was set is there
-pub get_set : (f : Files) (name v : List ℕ) → get (insert f name v) name ≡ Some v
+get_set : (f : Files) (name v : List ℕ) → get (insert f name v) name ≡ Some v
 get_set f name v = at_insert f name v name ∙ rw tied_same refl
 
-pub content_set : (f : Files) (name v : List ℕ) → content (insert f name v) name ≡ v
+content_set : (f : Files) (name v : List ℕ) → content (insert f name v) name ≡ v
 content_set f name v = ap (λ o. unwrap_or o []) (get_set f name v)
 
 twice : {X : Type 0} (b : Bool) (x y z : X) → cond b x (cond b y z) ≡ cond b x z
@@ -34,7 +34,7 @@ twice true x y z = refl
 twice false x y z = refl
 
 -- the later value stands
-pub set_twice : (f : Files) (name v w : List ℕ) → insert (insert f name v) name w ≡ insert f name w
+set_twice : (f : Files) (name v w : List ℕ) → insert (insert f name v) name w ≡ insert f name w
 set_twice f name v w = same_map nat_list_cmp_total (slice_cmp-IsAntisymmetric nat_cmp-IsAntisymmetric) _ _ (λ q. at_insert (insert f name v) name w q ∙ ap (cond (tied q name) (Some w)) (at_insert f name v q) ∙ twice (tied q name) (Some w) (Some v) (get f q) ∙ sym (at_insert f name w q))
 
 -- a file that was just made is there
@@ -64,13 +64,6 @@ written_front (Some a) None c name text p q = absurd p
 written_front (Some a) (Some b) None name text p q = absurd q
 written_front (Some a) (Some b) (Some c) name text p q =
     ⊎_elim (λ none. inr (0, none ∙ p)) (λ some. inr (some.0, gains_made a b c name (take some.0 text) p some.1)) q
-
--- a file that couldn't be made is as it was or empty, which is a front of any text
-pub made_front : (a b : Option Files) (name text : List ℕ) → Goes (BecomesEmptyOrStays name) a b → Goes (BecomesFront name text) a b
-made_front None None name text p = tt
-made_front None (Some b) name text p = absurd p
-made_front (Some a) None name text p = absurd p
-made_front (Some a) (Some b) name text p = ⊎_elim (λ none. inl none) (λ made. inr (0, made)) p
 
 whole_front : (a b : Option Files) (name text : List ℕ) → Goes (Gains name text) a b → Goes (GainsFront name text) a b
 whole_front None None name text p = tt

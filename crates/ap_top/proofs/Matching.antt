@@ -19,9 +19,6 @@ pub record Left {X Y : Type 0} (F : Form → X → Y → Type 0) (M : Letter →
   pub same : (form : Form) → (Agrees now form × EachBeside (F form) (drop i dues) (drop i items)) ↔ (Agrees old form × EachBeside (F form) dues items)
   pub known : (letter : Letter) → IsKnown old letter ⊎ OneOf (M letter) dues → IsKnown now letter ⊎ OneOf (M letter) (drop i dues)
 
-pub left_start : {X Y : Type 0} (F : Form → X → Y → Type 0) (M : Letter → X → Type 0) (old : List (Option ℕ)) (dues : List X) (items : List Y) → Left F M old old dues items 0
-left_start F M old dues items = record { same = λ form. ((λ h. h), (λ h. h)); known = λ letter h. h }
-
 split : {X Y : Type 0} (R : X → Y → Type 0) (dues : List X) (items : List Y) (i : ℕ) (due : X) (item : Y) → drop i dues ≡ due ∷ drop (i + 1) dues → drop i items ≡ item ∷ drop (i + 1) items → EachBeside R (drop i dues) (drop i items) ↔ (R due item × EachBeside R (drop (i + 1) dues) (drop (i + 1) items))
 split R dues items i due item e g = (rw (e, g) (λ h. h), rw (e, g) (λ h. h))
 
@@ -93,14 +90,14 @@ no_form None found h = h
 no_form (Some form) found h = tt
 
 -- a token that begins with the tag is one where the rest is
-pub tagged_same : (tag digits token : List ℕ) (letter : Letter) (form : Form) → token ≡ tag ++ digits → (number_value digits ≡ Some (value_of form letter)) ↔ IsToken form (tagged tag letter) token
+tagged_same : (tag digits token : List ℕ) (letter : Letter) (form : Form) → token ≡ tag ++ digits → (number_value digits ≡ Some (value_of form letter)) ↔ IsToken form (tagged tag letter) token
 tagged_same tag digits token letter form e = (
   (λ h. (digits, e, h)),
   (λ h. let other : List ℕ = h.0 in subst (λ d. number_value d ≡ Some (value_of form letter)) (append_cancel_left tag other digits (sym h.1 ∙ e)) h.2),
 )
 
 -- a token that doesn't begin with the tag is none
-pub tagged_never : (tag token : List ℕ) (letter : Letter) (form : Form) → ((rest : List ℕ) → token ≢ tag ++ rest) → IsToken form (tagged tag letter) token → ⊥
+tagged_never : (tag token : List ℕ) (letter : Letter) (form : Form) → ((rest : List ℕ) → token ≢ tag ++ rest) → IsToken form (tagged tag letter) token → ⊥
 tagged_never tag token letter form never h = never h.0 h.1
 
 -- taking a number for a letter after its tag takes the tagged token

@@ -44,7 +44,7 @@ pair_at f xs ys i d y z same lt e g =
     let there_too : i < length (map f ys) = simp length-map there in
     (λ j. (get_or_default xs i d (get_or xs i d) lt j, (g ∙ ap f e ∙ sym (get_or-map f ys i y z there)) j)) ∙ sym (get_or-zip xs (map f ys) i (get_or xs i d, z) lt there_too)
 
-pub pairs_length : {X Y Z : Type 0} (f : Y → Z) (xs : List X) (ys : List Y) → length xs ≡ length ys → length (zip xs (map f ys)) ≡ length xs
+pairs_length : {X Y Z : Type 0} (f : Y → Z) (xs : List X) (ys : List Y) → length xs ≡ length ys → length (zip xs (map f ys)) ≡ length xs
 pairs_length f xs ys same = length-zip xs (map f ys) ∙ simp length-map (omega arith)
 
 pub in_pairs : {X Y Z : Type 0} (f : Y → Z) (xs : List X) (ys : List Y) (i : ℕ) → length xs ≡ length ys → i < length xs → i < length (zip xs (map f ys))
@@ -55,7 +55,7 @@ zip-none [] = refl
 zip-none (x ∷ xs) = refl
 
 -- what is left of the pairs is the pairs of what is left
-pub zip-drop : {X Y Z : Type 0} (f : Y → Z) (n : ℕ) (xs : List X) (ys : List Y) → zip (drop n xs) (map f (drop n ys)) ≡ drop n (zip xs (map f ys))
+zip-drop : {X Y Z : Type 0} (f : Y → Z) (n : ℕ) (xs : List X) (ys : List Y) → zip (drop n xs) (map f (drop n ys)) ≡ drop n (zip xs (map f ys))
 zip-drop f zero xs ys = refl
 zip-drop f (suc n) [] ys = refl
 zip-drop f (suc n) (x ∷ xs) [] = zip-none (drop n xs)
