@@ -1,3 +1,4 @@
-pub mod Places
+pub mod Maps
 pub mod Steps
+pub mod Stored
 pub mod Whole

@@ -7,7 +7,7 @@ use Rattle.std.specs.Prelude.{unwrap_or, ◌⊎◌}
 use Rattle.std.specs.Cmp.Lexicographic.{nat_list_cmp_total}
 use Rattle.std.specs.FinMap.{get, insert, get-insert, same_map, slice_cmp-IsAntisymmetric, nat_cmp-IsAntisymmetric}
 use Rattle.ap_desk.specs.Files.{Files, content, Goes, Gains, GainsFront, Stands}
-use Rattle.ap_desk.proofs.Places.{tied, tied_decides}
+use Rattle.ap_desk.proofs.Maps.{tied, tied_decides}
 
 same : (a b : Files) → ((q : List ℕ) → get a q ≡ get b q) → a ≡ b
 same a b h = same_map nat_list_cmp_total (slice_cmp-IsAntisymmetric nat_cmp-IsAntisymmetric) a b h
