@@ -1,0 +1,5 @@
+pub mod Words
+pub mod Changes
+pub mod Calls
+pub mod Matching
+pub mod Stopping

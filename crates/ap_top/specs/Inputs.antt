@@ -1,0 +1,86 @@
+-- The inputs of a command: which are there, which have a fault, and which of them is reached. They are taken in the command's order.
+use Rattle.std.specs.Prelude.{◌≡◌, ◌⊎◌, ℕ, List, [], ◌∷◌, ◌++◌, drop, Option, None, Some, IfSome}
+use Rattle.std.specs.FinMap.{get}
+use Rattle.ap_desk.specs.Files.{Files, content}
+use Rattle.ap_desk.specs.Causes.{Rose}
+use Rattle.ap_top.specs.declared.command.Input.{Input}
+use Rattle.ap_top.specs.declared.command.Input.TheVariants as input
+use Rattle.ap_top.specs.declared.command.Slot.TheVariants as slot
+use Rattle.ap_top.specs.declared.command.Command.{Command}
+use Rattle.ap_top.specs.declared.form.Form.{Form}
+use Rattle.ap_top.specs.declared.refusal.Refusal.{Refusal}
+use Rattle.ap_top.specs.declared.refusal.Refusal.TheVariants as refusal
+use Rattle.ap_top.specs.Commands.{Operand, IsCall, IsCommand, operands_of}
+use Rattle.ap_top.specs.Form.{IsDescription, HasFault}
+
+-- an input: what its text holds, and the file's name
+abbrev pub Source : Type 0
+Source = Input × List ℕ
+
+abbrev pub inputs_in : List Operand → List Source
+inputs_in [] = []
+inputs_in ((slot.Input kind, name) ∷ operands) = (kind, name) ∷ inputs_in operands
+inputs_in ((slot.Output kind, name) ∷ operands) = inputs_in operands
+
+-- the inputs that the words of a command name, in order
+abbrev pub inputs_of : Command → List (List ℕ) → List Source
+inputs_of command words = inputs_in (operands_of command (drop 1 words))
+
+-- the text of an input has no fault; the texts of the inputs before it are given
+abbrev pub IsFaultless : List (List ℕ) → Input → List ℕ → Type 0
+IsFaultless before input.Description text = (form : Form) × IsDescription text form
+
+-- the text of an input is refused so
+abbrev pub IsRefused : List (List ℕ) → Input → List ℕ → Refusal → Type 0
+IsRefused before input.Description text refusal.Usage = ⊥
+IsRefused before input.Description text (refusal.Description judged) = HasFault text judged
+
+-- the file is there
+abbrev pub IsThere : Files → List ℕ → Type 0
+IsThere files name = get files name ≡ Some (content files name)
+
+-- the input is there, and its text has no fault
+pub record IsGood (files : Files) (before : List (List ℕ)) (source : Source) : Type 0 where
+  pub there : IsThere files source.1
+  pub faultless : IsFaultless before source.0 (content files source.1)
+
+-- the texts before the next input
+abbrev pub with_text : Files → List (List ℕ) → Source → List (List ℕ)
+with_text files before source = before ++ content files source.1 ∷ []
+
+-- every input is there, and none has a fault
+abbrev pub AreGood : Files → List (List ℕ) → List Source → Type 0
+AreGood files before [] = Unit {0}
+AreGood files before (source ∷ sources) = IsGood files before source × AreGood files (with_text files before source) sources
+
+-- some input isn't there, and each before the first such one is there and has no fault
+abbrev pub LacksOne : Files → List (List ℕ) → List Source → Type 0
+LacksOne files before [] = ⊥
+LacksOne files before (source ∷ sources) = (get files source.1 ≡ None) ⊎ (IsGood files before source × LacksOne files (with_text files before source) sources)
+
+-- some input is reached and is refused so: each before it is there and has no fault
+abbrev pub RefusesOne : Files → List (List ℕ) → List Source → Refusal → Type 0
+RefusesOne files before [] refusal = ⊥
+RefusesOne files before (source ∷ sources) refusal = (IsThere files source.1 × IsRefused before source.0 (content files source.1) refusal) ⊎ (IsGood files before source × RefusesOne files (with_text files before source) sources refusal)
+
+-- an input of these is refused so, where the desk tells; without words there is no other refusal
+abbrev pub IsDueOf : List Source → Option Files → Refusal → Type 0
+IsDueOf sources told refusal.Usage = ⊥
+IsDueOf sources told refusal = IfSome told (λ files. RefusesOne files [] sources refusal)
+
+-- the refusal is due: the words are no command; or they are one and, where the desk tells, a reached input is refused so
+abbrev pub IsDue : List (List ℕ) → Option Files → Refusal → Type 0
+IsDue words told refusal.Usage = IsCommand words → ⊥
+IsDue words told refusal = (command : Command) × IsCall command words × IsDueOf (inputs_of command words) told refusal
+
+-- the words are a command, every input of it is there, and none has a fault
+abbrev pub HasGoodInputs : List (List ℕ) → Files → Type 0
+HasGoodInputs words files = (command : Command) × IsCall command words × AreGood files [] (inputs_of command words)
+
+-- a call of the desk failed; or it missed a file and, where it tells, an input isn't there and each before it is there and has no fault
+abbrev pub FailsOn : List Source → Option Files → ℕ → ℕ → ℕ → ℕ → Type 0
+FailsOn sources told faults faults' absent absent' = Rose faults faults' ⊎ (Rose absent absent' × IfSome told (λ files. LacksOne files [] sources))
+
+-- the desk failed in the call, by its counts before and after
+abbrev pub HasFailed : List (List ℕ) → Option Files → ℕ → ℕ → ℕ → ℕ → Type 0
+HasFailed words told faults faults' absent absent' = Rose faults faults' ⊎ ((command : Command) × IsCall command words × FailsOn (inputs_of command words) told faults faults' absent absent')

@@ -1,0 +1,10 @@
+pub mod Commands
+pub mod Form
+pub mod Found
+pub mod DesignText
+pub mod Refusals
+pub mod Inputs
+pub mod Outputs
+pub mod Endings
+pub mod Troubles
+pub mod Generate

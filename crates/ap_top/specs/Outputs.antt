@@ -1,0 +1,56 @@
+-- The outputs of a command: the text that each is to hold, and what was written of them.
+use Rattle.std.specs.Prelude.{◌≡◌, ◌⊎◌, ℕ, List, [], ◌∷◌, drop, map, take}
+use Rattle.std.specs.FinMap.{insert}
+use Rattle.ap_desk.specs.Files.{Files, content}
+use Rattle.ap_top.specs.declared.command.Output.{Output}
+use Rattle.ap_top.specs.declared.command.Output.TheVariants.{Verilog}
+use Rattle.ap_top.specs.declared.command.Slot.TheVariants as slot
+use Rattle.ap_top.specs.declared.command.Command.{Command}
+use Rattle.ap_top.specs.declared.form.Form.{Form}
+use Rattle.ap_top.specs.Commands.{Operand, operands_of}
+use Rattle.ap_top.specs.Form.{IsDescription}
+use Rattle.ap_top.specs.DesignText.{IsDesignText}
+use Rattle.ap_top.specs.Inputs.{Source, AreGood}
+
+-- an output: what its text is to hold, and the file's name
+abbrev pub Target : Type 0
+Target = Output × List ℕ
+
+abbrev pub outputs_in : List Operand → List Target
+outputs_in [] = []
+outputs_in ((slot.Input kind, name) ∷ operands) = outputs_in operands
+outputs_in ((slot.Output kind, name) ∷ operands) = (kind, name) ∷ outputs_in operands
+
+-- the outputs that the words of a command name, in order
+abbrev pub outputs_of : Command → List (List ℕ) → List Target
+outputs_of command words = outputs_in (operands_of command (drop 1 words))
+
+-- the text is one that the output may hold, by the texts of the inputs
+abbrev pub IsOutputText : Output → List (List ℕ) → List ℕ → Type 0
+IsOutputText Verilog [] text = ⊥
+IsOutputText Verilog (description ∷ others) text = (form : Form) × IsDescription description form × IsDesignText form text
+
+abbrev pub texts_of : Files → List Source → List (List ℕ)
+texts_of files sources = map (λ (source : Source). content files source.1) sources
+
+-- each output holds its text, and no other file changed
+abbrev pub Writes : List (List ℕ) → List Target → Files → Files → Type 0
+Writes texts [] old new = new ≡ old
+Writes texts (target ∷ targets) old new = (text : List ℕ) × IsOutputText target.0 texts text × Writes texts targets (insert old target.1 text) new
+
+-- each output is as it was or holds a front of its text, and no other file changed
+abbrev pub WritesFronts : List (List ℕ) → List Target → Files → Files → Type 0
+WritesFronts texts [] old new = new ≡ old
+WritesFronts texts (target ∷ targets) old new = WritesFronts texts targets old new ⊎ ((text : List ℕ) × (n : ℕ) × IsOutputText target.0 texts text × WritesFronts texts targets (insert old target.1 (take n text)) new)
+
+-- this is done to the outputs by the texts of inputs that are all there and without fault
+abbrev pub FromGood : (List (List ℕ) → List Target → Files → Files → Type 0) → List Source → List Target → Files → Files → Type 0
+FromGood step sources targets old new = AreGood old [] sources × step (texts_of old sources) targets old new
+
+-- nothing was done, or each output is as it was or holds a front of its text
+abbrev pub IsBegunOn : List Source → List Target → Files → Files → Type 0
+IsBegunOn sources targets old new = (new ≡ old) ⊎ FromGood WritesFronts sources targets old new
+
+-- the file holds a front of the text, or nothing was done
+abbrev pub BecomesFront : List ℕ → List ℕ → Files → Files → Type 0
+BecomesFront name text old new = (new ≡ old) ⊎ ((n : ℕ) × (new ≡ insert old name (take n text)))

@@ -1,0 +1,29 @@
+-- Why a part of a call gave up, by the desk's counts, and what it left.
+use Rattle.std.specs.Prelude.{◌≡◌, ℕ, ◌≤◌, List, Option, Result, Err}
+use Rattle.ap_desk.specs.Files.{Files, Goes}
+use Rattle.ap_top.specs.declared.refusal.Trouble.TheVariants.{Desk}
+use Rattle.ap_top.specs.declared.refusal.Stop.{Stop}
+use Rattle.ap_top.specs.declared.refusal.Stop.TheVariants.{Refused, Broken}
+use Rattle.ap_top.specs.Inputs.{Source, IsDue, IsDueOf}
+use Rattle.ap_top.specs.Outputs.{Target, IsBegunOn}
+use Rattle.ap_top.specs.Endings.{IsBegun}
+
+-- the work ended for the desk
+abbrev pub desk_stop : Stop
+desk_stop = Broken Desk
+
+-- no count fell in the call, and where it gave up for the desk this holds
+pub record IsCaused {T E : Type 0} (fault : E) (cause : Type 0) (faults faults' absent absent' : ℕ) (result : Result T E) : Type 0 where
+  pub faults_stay : faults ≤ faults'
+  pub absent_stays : absent ≤ absent'
+  pub desk : result ≡ Err fault → cause
+
+-- what the work on these inputs and outputs left when it stopped: nothing where it was refused, and otherwise a part of the outputs
+abbrev pub StopsOn : List Source → List Target → Option Files → Option Files → Stop → Type 0
+StopsOn sources targets told told' (Refused refusal) = (told' ≡ told) × IsDueOf sources told refusal
+StopsOn sources targets told told' (Broken trouble) = Goes (IsBegunOn sources targets) told told'
+
+-- the same for the work that the words ask for
+abbrev pub StopsAs : List (List ℕ) → Option Files → Option Files → Stop → Type 0
+StopsAs words told told' (Refused refusal) = (told' ≡ told) × IsDue words told refusal
+StopsAs words told told' (Broken trouble) = Goes (IsBegun words) told told'

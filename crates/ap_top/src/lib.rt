@@ -1,0 +1,17 @@
+//! The program's one call: it reads the words of a command, does what they say on a desk, and answers a status.
+#![tactic(auto)]
+
+pub mod command;
+pub mod design;
+pub mod form;
+mod generate;
+mod numbers;
+mod output;
+pub mod pattern;
+mod printing;
+pub mod refusal;
+pub mod serve;
+
+/// Memory ran out.
+#[derive(Clone, Copy, Debug, PartialEq, Eq)]
+pub struct NoMemory;

@@ -1,0 +1,147 @@
+ghost use Rattle.std.specs.Prelude.{◌≡◌, Some, IfOk};
+ghost use Rattle.std.specs.String.{string_bytes};
+ghost use Rattle.ap_top.specs.declared.refusal.Trouble.TheVariants.{Memory};
+ghost use Rattle.ap_top.specs.declared.refusal.Stop.TheVariants.{Broken};
+ghost use Rattle.ap_top.specs.Refusals.{fault_text, refusal_line, refusal_status, refusal_text, stop_of, trouble_line, trouble_of, trouble_status};
+
+use crate::NoMemory;
+use crate::form::{Judged, ReadFault};
+use ap_desk::desk::DeskFault;
+use std::alloc::{AllocError, Global};
+use std::fmt;
+
+/// Why a command isn't done although the desk and the memory sufficed.
+#[derive(Clone, Copy, Debug, PartialEq, Eq)]
+pub enum Refusal {
+    /// The words are no command.
+    Usage,
+    /// The description has this fault.
+    Description(Judged),
+}
+
+/// What kept a command from being done or refused.
+#[derive(Clone, Copy, Debug, PartialEq, Eq)]
+pub enum Trouble {
+    /// The desk failed, or an input isn't there.
+    Desk,
+    /// Memory ran out.
+    Memory,
+}
+
+impl fmt::Display for Judged {
+    ghost output = { λ judged. Some (fault_text judged) };
+
+    fn fmt<W: fmt::Write>(&self, f: &mut fmt::Formatter<W>) -> fmt::Result {
+        match self {
+            Judged::TooLong => write!(f, "line 0: F5 TooLong"),
+            Judged::NotBuilt { line } => write!(f, "line {line}: F0 NotBuilt"),
+        }
+    }
+}
+
+impl fmt::Display for Refusal {
+    ghost output = { λ refusal. Some (refusal_text refusal) };
+
+    fn fmt<W: fmt::Write>(&self, f: &mut fmt::Formatter<W>) -> fmt::Result {
+        match self {
+            Refusal::Usage => write!(f, "usage"),
+            Refusal::Description(judged) => write!(f, "description: {judged}"),
+        }
+    }
+}
+
+impl Refusal {
+    /// The status that the program answers.
+    pub fn status(self) -> u8
+        ensures { result ≡ refusal_status self }
+    {
+        match self {
+            Refusal::Usage => 1,
+            Refusal::Description(_) => 2,
+        }
+    }
+
+    /// The line that is printed, with its line feed.
+    pub fn line(self, alloc: Global) -> Result<String, AllocError>
+        ensures { IfOk result (λ line. string_bytes line ≡ refusal_line self) }
+    {
+        format!(in alloc; "{self}\n")
+    }
+}
+
+impl Trouble {
+    /// The status that the program answers.
+    pub fn status(self) -> u8
+        ensures { result ≡ trouble_status self }
+    {
+        match self {
+            Trouble::Desk => 6,
+            Trouble::Memory => 7,
+        }
+    }
+
+    /// The line that is printed, with its line feed.
+    pub fn line(self) -> &'static str
+        ensures { result.now ≡ trouble_line self }
+    {
+        match self {
+            Trouble::Desk => "desk fault\n",
+            Trouble::Memory => "want of memory\n",
+        }
+    }
+}
+
+impl From<DeskFault> for Trouble {
+    ghost from_gives = { λ fault trouble. trouble ≡ trouble_of fault };
+
+    fn from(fault: DeskFault) -> Trouble {
+        match fault {
+            DeskFault::Failed | DeskFault::Missing => Trouble::Desk,
+            DeskFault::NoMemory => Trouble::Memory,
+        }
+    }
+}
+
+/// What ended the work on a command before it was done.
+#[derive(Clone, Copy, Debug, PartialEq, Eq)]
+pub enum Stop {
+    /// It is refused.
+    Refused(Refusal),
+    /// A trouble kept it from being done.
+    Broken(Trouble),
+}
+
+impl From<Trouble> for Stop {
+    ghost from_gives = { λ trouble stop. stop ≡ Broken trouble };
+
+    fn from(trouble: Trouble) -> Stop {
+        Stop::Broken(trouble)
+    }
+}
+
+impl From<DeskFault> for Stop {
+    ghost from_gives = { λ fault stop. stop ≡ Broken (trouble_of fault) };
+
+    fn from(fault: DeskFault) -> Stop {
+        Stop::Broken(Trouble::from(fault))
+    }
+}
+
+impl From<NoMemory> for Stop {
+    ghost from_gives = { λ _ stop. stop ≡ Broken Memory };
+
+    fn from(_: NoMemory) -> Stop {
+        Stop::Broken(Trouble::Memory)
+    }
+}
+
+impl From<ReadFault> for Stop {
+    ghost from_gives = { λ fault stop. stop ≡ stop_of fault };
+
+    fn from(fault: ReadFault) -> Stop {
+        match fault {
+            ReadFault::Refused(judged) => Stop::Refused(Refusal::Description(judged)),
+            ReadFault::NoMemory => Stop::Broken(Trouble::Memory),
+        }
+    }
+}

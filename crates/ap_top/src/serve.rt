@@ -1,0 +1,74 @@
+ghost use Rattle.std.specs.Prelude.{◌≡◌, ◌≤◌, ◌⊎◌, ◌↔◌, List, map, OnOk, OnErr, IfOk, IfErr, IsSomeAnd, Some, Contains};
+ghost use Rattle.std.specs.String.{string_bytes};
+ghost use Rattle.ap_desk.specs.Causes.{Rose};
+ghost use Rattle.ap_desk.specs.Files.{Goes};
+ghost use Rattle.ap_top.specs.Commands.{IsCommand};
+ghost use Rattle.ap_top.specs.Endings.{Answers, IsDone, Refuses, StopsShort, IsPartDone};
+ghost use Rattle.ap_top.specs.Inputs.{HasFailed, HasGoodInputs, IsDue};
+ghost use Rattle.ap_top.specs.Troubles.{IsCaused, StopsAs, desk_stop};
+ghost use Rattle.ap_top.specs.Refusals.{IsOrMemory, IsRefusalStatus, IsStatus, refusal_status, trouble_line, trouble_status};
+
+use crate::command::{Command, command_of};
+use crate::generate::generate;
+use crate::printing::{give_up, print_line};
+use crate::refusal::{Refusal, Stop, Trouble};
+use ap_desk::desk::Desk;
+use std::alloc::Global;
+
+/// Does the command that the words are.
+fn run<D: Desk>(alloc: Global, words: &[String], desk: &mut D) -> Result<(), Stop>
+    ensures command { OnOk result (IsCommand (map string_bytes words.now)) }
+    ensures done { OnOk result (Goes (IsDone (map string_bytes words.now)) (D.files desk.old) (D.files desk.new)) }
+    ensures stopped { IfErr result (StopsAs (map string_bytes words.now) (D.files desk.old) (D.files desk.new)) }
+    ensures cause { IsCaused desk_stop (HasFailed (map string_bytes words.now) (D.files desk.old) (D.faults desk.old) (D.faults desk.new) (D.absent desk.old) (D.absent desk.new)) (D.faults desk.old) (D.faults desk.new) (D.absent desk.old) (D.absent desk.new) result }
+{
+    match command_of(words) {
+        None => Err(Stop::Refused(Refusal::Usage)),
+        Some(Command::Gen) => generate(alloc, words[1].as_str(), words[2].as_str(), desk),
+    }
+}
+
+/// Does the command that the words are, or prints why it is refused, and gives the status.
+fn answer<D: Desk>(alloc: Global, words: &[String], desk: &mut D) -> Result<u8, Trouble>
+    ensures answered { IfOk result (λ status. Answers (map string_bytes words.now) status (D.files desk.old) (D.files desk.new)) }
+    ensures stopped { OnErr result (Goes (IsPartDone (map string_bytes words.now)) (D.files desk.old) (D.files desk.new)) }
+    ensures cause { IsCaused Trouble.Desk (HasFailed (map string_bytes words.now) (D.files desk.old) (D.faults desk.old) (D.faults desk.new) (D.absent desk.old) (D.absent desk.new)) (D.faults desk.old) (D.faults desk.new) (D.absent desk.old) (D.absent desk.new) result }
+{
+    match run(alloc, words, desk) {
+        Ok(()) => Ok(0),
+        Err(Stop::Refused(refusal)) => {
+            print_line(alloc, refusal, desk)?;
+            Ok(refusal.status())
+        }
+        Err(Stop::Broken(trouble)) => Err(trouble),
+    }
+}
+
+/// Does all that the program does: it takes the words after the program's name, does the command that they are on the
+/// desk, and answers the program's status.
+///
+/// 0: the command is done. 1: the words are no command. 2: the description has a fault. 6: the desk failed, or an
+/// input isn't there. 7: memory ran out. For 1, 2, 6 and 7 a line on the file `-` says why.
+pub fn serve<D: Desk>(alloc: Global, words: &[String], desk: &mut D) -> u8
+    ensures status { IsStatus result }
+
+    // What each status says of the words, the files and the desk's counts.
+    ensures done { result ≡ 0 → IsCommand (map string_bytes words.now) × Goes (IsDone (map string_bytes words.now)) (D.files desk.old) (D.files desk.new) }
+    ensures refused { IsRefusalStatus result → Refuses (map string_bytes words.now) result (D.files desk.old) (D.files desk.new) }
+    ensures failed { result ≡ trouble_status Trouble.Desk → HasFailed (map string_bytes words.now) (D.files desk.old) (D.faults desk.old) (D.faults desk.new) (D.absent desk.old) (D.absent desk.new) }
+    ensures stopped { (trouble : Trouble) → result ≡ trouble_status trouble → Goes (StopsShort (map string_bytes words.now) (trouble_line trouble)) (D.files desk.old) (D.files desk.new) }
+
+    // Which status comes where the desk didn't fail.
+    ensures usage { ¬ IsCommand (map string_bytes words.now) → ¬ HasFailed (map string_bytes words.now) (D.files desk.old) (D.faults desk.old) (D.faults desk.new) (D.absent desk.old) (D.absent desk.new) → IsOrMemory 1 result }
+    ensures refuses { (refusal : Refusal) → IsSomeAnd (D.files desk.old) (λ told. IsDue (map string_bytes words.now) (Some told) refusal) → ¬ HasFailed (map string_bytes words.now) (D.files desk.old) (D.faults desk.old) (D.faults desk.new) (D.absent desk.old) (D.absent desk.new) → IsOrMemory (refusal_status refusal) result }
+    ensures completes { IsSomeAnd (D.files desk.old) (HasGoodInputs (map string_bytes words.now)) → ¬ HasFailed (map string_bytes words.now) (D.files desk.old) (D.faults desk.old) (D.faults desk.new) (D.absent desk.old) (D.absent desk.new) → IsOrMemory 0 result }
+
+    // No count falls.
+    ensures faults { D.faults desk.old ≤ D.faults desk.new }
+    ensures absent { D.absent desk.old ≤ D.absent desk.new }
+{
+    match answer(alloc, words, desk) {
+        Ok(status) => status,
+        Err(trouble) => give_up(trouble, desk),
+    }
+}
