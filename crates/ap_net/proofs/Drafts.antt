@@ -1,5 +1,6 @@
-use Rattle.std.proofs.Common.{◌≡◌, ℕ, ◌+◌, ◌<◌, ◌≤◌, suc, zero, max, List, [], ◌∷◌, ◌++◌, length, Some, Bool, true, false, refl, sym, ap, subst, ◌∙◌, arith, eq-eqb, append-nil, append_assoc, length-append}
-use Rattle.std.specs.Prelude.{slice_get, ◌==◌, if◌then◌else◌}
+use Rattle.std.proofs.Common.{◌≡◌, ◌≢◌, ℕ, ◌+◌, ◌<◌, ◌≤◌, inl, inr, ⊎_elim, suc, zero, max, List, [], ◌∷◌, ◌++◌, length, Some, Bool, true, false, refl, sym, ap, subst, ◌∙◌, arith, eq-eqb, append-nil, append_assoc, length-append}
+use Rattle.std.proofs.lemmas.List.{map-append}
+use Rattle.std.specs.Prelude.{◌⊎◌, slice_get, ◌==◌, if◌then◌else◌}
 use Rattle.std.specs.Bool.{Decides}
 use Rattle.std.proofs.lemmas.Bool.Decides.{Decides-eqb}
 use Rattle.std.specs.List.{AllByRecursion as Each}
@@ -9,8 +10,10 @@ use Rattle.ap_net.specs.declared.net.FlatNet.{FlatNet}
 use Rattle.ap_net.specs.declared.net.Assign.{Assign}
 use Rattle.ap_net.specs.declared.net.Next.{Next}
 use Rattle.ap_net.specs.Cells.{operands, IsNet, CellFits, cell_value}
-use Rattle.ap_net.specs.Wiring.{Holds, Ranked, IsWired, Settles}
-use Rattle.ap_net.specs.Draft.{Draft, Begins, Extends, RanksOn, Adds, SettlesDraft}
+use Rattle.ap_net.specs.declared.net.Role.TheVariants as role
+use Rattle.ap_net.specs.Names.{IsNew, IsNotNumbered}
+use Rattle.ap_net.specs.Wiring.{IsSource, reset_of, taken_names, Holds, Ranked, IsWired, Settles}
+use Rattle.ap_net.specs.Draft.{Draft, Begins, Extends, RanksOn, Adds, Closes, Makes, SettlesDraft}
 use Rattle.ap_net.proofs.Lists.{All-join, All-front, All-back, All-from, All-both, get_left}
 use Rattle.ap_net.proofs.Wired.{width_stays, number-IsNet, operands-CellFits, declared, IsNet-more, CellFits-more}
 
@@ -128,3 +131,51 @@ Settles-made a net c read s = (
   Settles-before a (made a net c) read (made-extends a net c) s,
   (All-back (Holds read) a.assigns (record { to = record { number = length a.nets; width = net.width }; cell = c } ∷ []) s.holds).0,
 )
+
+-- what stands in a list with one more element
+one_more_net : {X : Type 0} (xs : List X) (y : X) (n : ℕ) (x : X) → slice_get (xs ++ y ∷ []) n ≡ Some x → (slice_get xs n ≡ Some x) ⊎ ((n ≡ length xs) × (x ≡ y))
+one_more_net [] y zero x h = let same : y ≡ x = cc in inr (refl, sym same)
+one_more_net [] y (suc n) x h = cc
+one_more_net (z ∷ xs) y zero x h = inl h
+one_more_net (z ∷ xs) y (suc n) x h = ⊎_elim inl (λ q. inr (ap suc q.0, q.1)) (one_more_net xs y n x h)
+
+not_register : (net : FlatNet) → (IsSource net.role → ⊥) → net.role ≡ role.Register (reset_of net.role) → ⊥
+not_register net f e = f (subst IsSource (sym e) tt)
+
+-- a made net is driven and is no register
+pub Closes-made : (a : Draft) (net : FlatNet) (c : Cell) → (IsSource net.role → ⊥) → Closes a (made a net c)
+Closes-made a net c wire =
+    let last : List Assign = record { to = record { number = length a.nets; width = net.width }; cell = c } ∷ [] in
+    record {
+      driven = λ old n x at free none.
+          ⊎_elim
+          (λ there. old n x there free (All-front (λ (b : Assign). b.to.number ≢ n) a.assigns last none))
+          (λ new. (All-back (λ (b : Assign). b.to.number ≢ n) a.assigns last none).0 (sym new.0))
+          (one_more_net a.nets net n x at);
+      registers = λ k old n x at is.
+          ⊎_elim (λ there. old n x there is) (λ new. absurd (not_register net wire (subst (λ (y : FlatNet). y.role ≡ role.Register (reset_of y.role)) new.1 is))) (one_more_net a.nets net n x at);
+    }
+
+-- a name that isn't the new net's is as new as it was
+pub IsNew-made : (nets : List FlatNet) (net : FlatNet) (name : List ℕ) → net.name ≢ name → IsNew name (taken_names nets) → IsNew name (taken_names (nets ++ net ∷ []))
+IsNew-made nets net name ne h = rw (map-append (λ (x : FlatNet). x.name) nets (net ∷ [])) (All-join (λ other. other ≢ name) (taken_names nets) (net.name ∷ []) h (ne, tt))
+
+pub Closes-refl : (a : Draft) → Closes a a
+Closes-refl a = record { driven = λ h. h; registers = λ k h. h }
+
+pub Closes-trans : (a b c : Draft) → Closes a b → Closes b c → Closes a c
+Closes-trans a b c p q = record { driven = λ h. q.driven (p.driven h); registers = λ k h. q.registers k (p.registers k h) }
+
+pub Makes-refl : (a : Draft) → Makes a a
+Makes-refl a = record { adds = Adds-refl a; closes = Closes-refl a; fresh = λ h. h; names = λ name other h. h }
+
+pub Makes-trans : (a b c : Draft) → Makes a b → Makes b c → Makes a c
+Makes-trans a b c p q = record {
+  adds = Adds-trans a b c p.adds q.adds;
+  closes = Closes-trans a b c p.closes q.closes;
+  fresh = λ h. q.fresh (p.fresh h);
+  names = λ name other h. q.names name other (p.names name other h);
+}
+
+pub IsNet-Makes : (a b : Draft) (w : Wire) → Makes a b → IsNet a.nets w → IsNet b.nets w
+IsNet-Makes a b w m h = IsNet-Adds a b w m.adds h

@@ -1,5 +1,5 @@
 use Rattle.std.proofs.Common.{◌≡◌, ◌≢◌, ℕ, ◌+◌, ◌%◌, ◌<◌, ◌≤◌, ◌^◌, ◌&&◌, ◌||◌, Bool, true, false, List, [], ◌∷◌, ◌++◌, length, refl, sym, ap, ◌∙◌, arith, zero, suc}
-use Rattle.std.specs.Prelude.{nat_le, not, IsTrue}
+use Rattle.std.specs.Prelude.{nat_le, not, IsTrue, ◌==◌}
 use Rattle.std.specs.List.{list_all, list_any}
 use Rattle.std.specs.Str.{IsAscii, IsUtf8, bytes_eq}
 use Rattle.std.specs.Fmt.{decimal}
@@ -8,7 +8,7 @@ use Rattle.std.proofs.lemmas.Str.{IsUtf8-from_ascii}
 use Rattle.std.proofs.lemmas.List.Folds.{list_all-append}
 use Rattle.std.proofs.lemmas.Bool.Decides.{nat_tests}
 use Rattle.std.proofs.lemmas.Slice.Eq.{bytes_eq-Decides}
-use Rattle.ap_net.specs.Names.{IsNetName, IsNew, is_name_byte, numbered, starts_with_letter, barred_words}
+use Rattle.ap_net.specs.Names.{IsNetName, IsNew, IsNotNumbered, is_name_byte, numbered, starts_with_letter, barred_words}
 
 -- each digit may stand in a name
 digit_allowed : (d : ℕ) → d < 10 → is_name_byte (48 + d) ≡ true
@@ -58,3 +58,12 @@ IsNew-is_new name [] h = tt
 IsNew-is_new name (other ∷ names) h =
     let both = both_true (not (bytes_eq other name)) (is_new name names) h in
     (differ other name both.0, IsNew-is_new name names both.1)
+
+-- whether a name begins with another letter than n
+abbrev pub is_other_letter : List ℕ → Bool
+is_other_letter [] = true
+is_other_letter (b ∷ bs) = not (b == 110)
+
+-- such a name isn't n and a number
+pub IsNotNumbered-other : (name : List ℕ) → IsTrue (is_other_letter name) → IsNotNumbered name
+IsNotNumbered-other name h k small e = let clash : is_other_letter (numbered k) ≡ true = sym (ap is_other_letter e) ∙ h in cc

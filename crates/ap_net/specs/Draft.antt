@@ -1,13 +1,13 @@
 -- A module that is being built, and how a piece of circuit makes it grow.
-use Rattle.std.specs.Prelude.{◌≡◌, ℕ, ◌<◌, List, ◌++◌, length, count_by, Bool, true, false}
+use Rattle.std.specs.Prelude.{◌≡◌, ℕ, ◌<◌, List, ◌++◌, length, slice_get, Some, count_by, Bool, true, false}
 use Rattle.ap_net.specs.declared.cell.Wire.{Wire}
 use Rattle.ap_net.specs.declared.net.Role.{Role}
 use Rattle.ap_net.specs.declared.net.Role.TheVariants as role
 use Rattle.ap_net.specs.declared.net.FlatNet.{FlatNet}
 use Rattle.ap_net.specs.declared.net.Assign.{Assign}
 use Rattle.ap_net.specs.declared.net.Next.{Next}
-use Rattle.ap_net.specs.Names.{HasFresh}
-use Rattle.ap_net.specs.Wiring.{Settles, Ranked, taken_names}
+use Rattle.ap_net.specs.Names.{HasFresh, IsNew, IsNotNumbered}
+use Rattle.ap_net.specs.Wiring.{IsSource, reset_of, Undriven, Settles, Ranked, taken_names}
 
 -- a module's name, its nets in the order of their declaration, and what drives them
 pub record Draft : Type 0 where
@@ -39,6 +39,19 @@ pub record Adds (old new : Draft) : Type 0 where
   pub nexts : new.nexts ≡ old.nexts
   pub order : (rank : ℕ → ℕ) → Ranked rank old.assigns → RanksOn old new rank
 
+-- every wire and output has its driver
+abbrev pub AreDriven : Draft → Type 0
+AreDriven d = (n : ℕ) (net : FlatNet) → slice_get d.nets n ≡ Some net → (IsSource net.role → ⊥) → Undriven d.assigns n → ⊥
+
+-- every register has a number below k
+abbrev pub RegistersBelow : List FlatNet → ℕ → Type 0
+RegistersBelow nets k = (n : ℕ) (net : FlatNet) → slice_get nets n ≡ Some net → net.role ≡ role.Register (reset_of net.role) → n < k
+
+-- what was added is driven, and no register is among it
+pub record Closes (old new : Draft) : Type 0 where
+  pub driven : AreDriven old → AreDriven new
+  pub registers : (k : ℕ) → RegistersBelow old.nets k → RegistersBelow new.nets k
+
 -- the net is a wire: neither a port nor a register
 abbrev pub is_plain : Role → Bool
 is_plain role.Input = false
@@ -56,6 +69,14 @@ wire_count nets = count_by is_wire nets
 -- fresh wires can be had any number of times
 abbrev pub CanFresh : List FlatNet → Type 0
 CanFresh nets = HasFresh (taken_names nets) (wire_count nets)
+
+-- Fresh wires were made, each with its cell: they are driven, further ones can be had, and a name that isn't n and a number
+-- is as new as it was.
+pub record Makes (old new : Draft) : Type 0 where
+  pub adds : Adds old new
+  pub closes : Closes old new
+  pub fresh : CanFresh old.nets → CanFresh new.nets
+  pub names : (name : List ℕ) → IsNotNumbered name → IsNew name (taken_names old.nets) → IsNew name (taken_names new.nets)
 
 -- the reading fits the nets so far and meets every equation so far
 abbrev pub SettlesDraft : Draft → (ℕ → ℕ) → Type 0

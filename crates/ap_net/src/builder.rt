@@ -4,7 +4,7 @@ ghost use Rattle.ap_net.specs.Cells.{IsNet, CellFits, cell_value};
 ghost use Rattle.ap_net.specs.Wiring.{IsFree, reset_of, NextFits, IsDriven, Undriven, Unclocked, taken_names};
 ghost use Rattle.ap_net.specs.Modules.{ports_among};
 ghost use Rattle.ap_net.specs.Finished.{IsFinished};
-ghost use Rattle.ap_net.specs.Draft.{Draft, Adds, CanFresh, SettlesDraft, is_plain, wire_count};
+ghost use Rattle.ap_net.specs.Draft.{Draft, Adds, Closes, Makes, CanFresh, SettlesDraft, is_plain, wire_count};
 
 use crate::NoMemory;
 use crate::cell::{Cell, Wire};
@@ -215,8 +215,7 @@ impl Builder {
         requires fits { CellFits self.old.nets width cell }
         ensures net { IfOk result (λ w. IsNet self.new.nets w × (w.width ≡ width)) }
         ensures value { IfOk result (λ w. (read : ℕ → ℕ) → SettlesDraft self.new read → SettlesDraft self.old read × (read w.number ≡ cell_value read width cell)) }
-        ensures adds { OnOk result (Adds self.old self.new) }
-        ensures fresh { OnOk result (CanFresh self.new.nets) }
+        ensures makes { OnOk result (Makes self.old self.new) }
     {
         let _ = &self.nets;
         let to = self.fresh(width)?;
@@ -236,6 +235,7 @@ impl Builder {
         ensures nets { OnOk result (self.new.nets ≡ self.old.nets ++ record { name = name.now; width = width; role = Role.Output } ∷ []) }
         ensures value { IfOk result (λ w. (read : ℕ → ℕ) → SettlesDraft self.new read → SettlesDraft self.old read × (read w.number ≡ cell_value read width cell)) }
         ensures adds { OnOk result (Adds self.old self.new) }
+        ensures closes { OnOk result (Closes self.old self.new) }
         ensures fresh { OnOk result (IsNotNumbered name.now → CanFresh self.old.nets → CanFresh self.new.nets) }
     {
         let _ = &self.nets;

@@ -4,8 +4,8 @@ use Rattle.ap_net.specs.Cells.{cell_value}
 use Rattle.ap_net.specs.Wiring.{IsWired, Settles}
 use Rattle.ap_net.specs.Draft.{Draft, wire_count, SettlesDraft}
 use Rattle.ap_net.proofs.Lists.{get_end}
-use Rattle.ap_net.proofs.Wired.{IsNet-end, CellFits-more, IsFree-end, Undriven-end}
-use Rattle.ap_net.proofs.Drafts.{Adds-made, Settles-made, made}
+use Rattle.ap_net.proofs.Wired.{IsNet-end, CellFits-more, IsFree-end, Undriven-end, CanFresh-fresh}
+use Rattle.ap_net.proofs.Drafts.{Adds-made, Closes-made, IsNew-made, Settles-made, made}
 use Rattle.ap_net.proofs.builder.Builder.make.Goals as goal
 
 pub fresh-requires-clause-name : goal.fresh-requires-clause-name
@@ -34,7 +34,14 @@ returns-clause-net c = rw (c.in_ok-cell.ensures.ok, c.in_ok-to.ensures.ok, c.in_
 pub returns-clause-value : goal.returns-clause-value
 returns-clause-value c = rw (c.in_ok-cell.ensures.ok, c.in_ok-to.ensures.ok, c.in_ok-to.ensures.wire) (Settles-made c.args.self.now _ c.args.cell)
 
-pub returns-clause-adds : goal.returns-clause-adds
-returns-clause-adds c =
+pub returns-clause-makes : goal.returns-clause-makes
+returns-clause-makes c =
     let wired : IsWired c.args.self.now.nets c.args.self.now.assigns c.args.self.now.nexts = rw (← c.self.view_is) c.self.invariant.1 in
-    rw (c.in_ok-cell.ensures.ok, c.in_ok-to.ensures.ok, c.in_ok-to.ensures.wire) (Adds-made c.args.self.now _ c.args.cell wired c.requires.fits)
+    let count : wire_count c.args.self.now.nets ≡ c.self.inside.wires = rw (← c.self.view_is) (sym c.self.invariant.2) in
+    let small : wire_count c.args.self.now.nets < 2 ^ 64 = omega arith in
+    rw (c.in_ok-cell.ensures.ok, c.in_ok-to.ensures.ok, c.in_ok-to.ensures.wire) (record {
+      adds = Adds-made c.args.self.now _ c.args.cell wired c.requires.fits;
+      closes = Closes-made c.args.self.now _ c.args.cell (λ s. s);
+      fresh = CanFresh-fresh c.args.self.now.nets _ refl refl small;
+      names = λ name other h. IsNew-made c.args.self.now.nets _ name (λ e. other _ small (sym e)) h;
+    })

@@ -5,7 +5,7 @@ use Rattle.ap_net.specs.Wiring.{IsWired, Settles}
 use Rattle.ap_net.specs.Draft.{Draft, wire_count, SettlesDraft}
 use Rattle.ap_net.proofs.Lists.{get_end}
 use Rattle.ap_net.proofs.Wired.{IsNet-end, CellFits-more, IsFree-end, Undriven-end}
-use Rattle.ap_net.proofs.Drafts.{Adds-made, Settles-made, made}
+use Rattle.ap_net.proofs.Drafts.{Adds-made, Closes-made, Settles-made, made}
 use Rattle.ap_net.proofs.builder.Builder.show.Goals as goal
 
 pub cell-requires-clause-net : goal.cell-requires-clause-net
@@ -35,3 +35,6 @@ returns-clause-adds c =
 
 pub returns-clause-there : goal.returns-clause-there
 returns-clause-there c = rw (c.in_ok-cell.ensures.ok, c.in_ok-to.ensures.ok, c.in_ok-to.ensures.wire) (get_end c.args.self.now.nets _)
+
+pub returns-clause-closes : goal.returns-clause-closes
+returns-clause-closes c = rw (c.in_ok-cell.ensures.ok, c.in_ok-to.ensures.ok, c.in_ok-to.ensures.wire) (Closes-made c.args.self.now _ c.args.cell (λ s. s))
