@@ -1,4 +1,6 @@
 use Rattle.std.proofs.Common.{◌≡◌, ◌≢◌, ℕ, ◌+◌, ◌<◌, ◌≤◌, inl, inr, ⊎_elim, suc, zero, max, List, [], ◌∷◌, ◌++◌, length, Some, Bool, true, false, refl, sym, ap, subst, ◌∙◌, arith, eq-eqb, append-nil, append_assoc, length-append}
+use Rattle.ap_net.specs.Modules.{port_by, ports_among}
+use Rattle.std.proofs.lemmas.List.Elements.{filter_map-append}
 use Rattle.std.proofs.lemmas.List.{map-append}
 use Rattle.std.specs.Prelude.{◌⊎◌, slice_get, ◌==◌, if◌then◌else◌}
 use Rattle.std.specs.Bool.{Decides}
@@ -160,6 +162,14 @@ Closes-made a net c wire =
 pub IsNew-made : (nets : List FlatNet) (net : FlatNet) (name : List ℕ) → net.name ≢ name → IsNew name (taken_names nets) → IsNew name (taken_names (nets ++ net ∷ []))
 IsNew-made nets net name ne h = rw (map-append (λ (x : FlatNet). x.name) nets (net ∷ [])) (All-join (λ other. other ≢ name) (taken_names nets) (net.name ∷ []) h (ne, tt))
 
+-- a made wire is no port
+pub ports_among-wire : (nets : List FlatNet) (name : List ℕ) (width : ℕ) → ports_among (nets ++ record { name = name; width = width; role = role.Plain } ∷ []) ≡ ports_among nets
+ports_among-wire nets name width = filter_map-append (λ (net : FlatNet). port_by net.role net) nets (record { name = name; width = width; role = role.Plain } ∷ []) ∙ append-nil (ports_among nets)
+
+-- a shown port is one more
+pub ports_among-shown : (nets : List FlatNet) (name : List ℕ) (width : ℕ) → ports_among (nets ++ record { name = name; width = width; role = role.Output } ∷ []) ≡ ports_among nets ++ record { name = name; width = width; output = true } ∷ []
+ports_among-shown nets name width = filter_map-append (λ (net : FlatNet). port_by net.role net) nets (record { name = name; width = width; role = role.Output } ∷ [])
+
 pub Closes-refl : (a : Draft) → Closes a a
 Closes-refl a = record { driven = λ h. h; registers = λ k h. h }
 
@@ -167,7 +177,7 @@ pub Closes-trans : (a b c : Draft) → Closes a b → Closes b c → Closes a c
 Closes-trans a b c p q = record { driven = λ h. q.driven (p.driven h); registers = λ k h. q.registers k (p.registers k h) }
 
 pub Makes-refl : (a : Draft) → Makes a a
-Makes-refl a = record { adds = Adds-refl a; closes = Closes-refl a; fresh = λ h. h; names = λ name other h. h }
+Makes-refl a = record { adds = Adds-refl a; closes = Closes-refl a; fresh = λ h. h; names = λ name other h. h; ports = refl }
 
 pub Makes-trans : (a b c : Draft) → Makes a b → Makes b c → Makes a c
 Makes-trans a b c p q = record {
@@ -175,6 +185,7 @@ Makes-trans a b c p q = record {
   closes = Closes-trans a b c p.closes q.closes;
   fresh = λ h. q.fresh (p.fresh h);
   names = λ name other h. q.names name other (p.names name other h);
+  ports = q.ports ∙ p.ports;
 }
 
 pub IsNet-Makes : (a b : Draft) (w : Wire) → Makes a b → IsNet a.nets w → IsNet b.nets w

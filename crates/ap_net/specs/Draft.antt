@@ -6,6 +6,7 @@ use Rattle.ap_net.specs.declared.net.Role.TheVariants as role
 use Rattle.ap_net.specs.declared.net.FlatNet.{FlatNet}
 use Rattle.ap_net.specs.declared.net.Assign.{Assign}
 use Rattle.ap_net.specs.declared.net.Next.{Next}
+use Rattle.ap_net.specs.Modules.{ports_among}
 use Rattle.ap_net.specs.Names.{HasFresh, IsNew, IsNotNumbered}
 use Rattle.ap_net.specs.Wiring.{IsSource, reset_of, Undriven, Settles, Ranked, taken_names}
 
@@ -70,13 +71,14 @@ wire_count nets = count_by is_wire nets
 abbrev pub CanFresh : List FlatNet → Type 0
 CanFresh nets = HasFresh (taken_names nets) (wire_count nets)
 
--- Fresh wires were made, each with its cell: they are driven, further ones can be had, and a name that isn't n and a number
--- is as new as it was.
+-- Fresh wires were made, each with its cell: they are driven, further ones can be had, a name that isn't n and a number
+-- is as new as it was, and the ports are as they were.
 pub record Makes (old new : Draft) : Type 0 where
   pub adds : Adds old new
   pub closes : Closes old new
   pub fresh : CanFresh old.nets → CanFresh new.nets
   pub names : (name : List ℕ) → IsNotNumbered name → IsNew name (taken_names old.nets) → IsNew name (taken_names new.nets)
+  pub ports : ports_among new.nets ≡ ports_among old.nets
 
 -- the reading fits the nets so far and meets every equation so far
 abbrev pub SettlesDraft : Draft → (ℕ → ℕ) → Type 0

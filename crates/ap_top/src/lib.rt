@@ -5,6 +5,7 @@ pub mod command;
 pub mod design;
 pub mod form;
 mod generate;
+mod machine;
 mod numbers;
 mod output;
 pub mod pattern;

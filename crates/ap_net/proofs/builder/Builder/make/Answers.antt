@@ -5,7 +5,7 @@ use Rattle.ap_net.specs.Wiring.{IsWired, Settles}
 use Rattle.ap_net.specs.Draft.{Draft, wire_count, SettlesDraft}
 use Rattle.ap_net.proofs.Lists.{get_end}
 use Rattle.ap_net.proofs.Wired.{IsNet-end, CellFits-more, IsFree-end, Undriven-end, CanFresh-fresh}
-use Rattle.ap_net.proofs.Drafts.{Adds-made, Closes-made, IsNew-made, Settles-made, made}
+use Rattle.ap_net.proofs.Drafts.{Adds-made, Closes-made, IsNew-made, ports_among-wire, Settles-made, made}
 use Rattle.ap_net.proofs.builder.Builder.make.Goals as goal
 
 pub fresh-requires-clause-name : goal.fresh-requires-clause-name
@@ -44,4 +44,5 @@ returns-clause-makes c =
       closes = Closes-made c.args.self.now _ c.args.cell (λ s. s);
       fresh = CanFresh-fresh c.args.self.now.nets _ refl refl small;
       names = λ name other h. IsNew-made c.args.self.now.nets _ name (λ e. other _ small (sym e)) h;
+      ports = ports_among-wire c.args.self.now.nets _ _;
     })

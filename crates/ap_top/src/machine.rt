@@ -1,0 +1,105 @@
+ghost use Rattle.std.specs.Prelude.{◌≡◌, ℕ, ◌+◌, ◌%◌, ◌^◌, ◌<◌, ◌≤◌, ◌==◌, ◌∷◌, [], if◌then◌else◌, IfOk, OnOk, bit_and};
+ghost use Rattle.ap_net.specs.Cells.{IsNet};
+ghost use Rattle.ap_net.specs.Draft.{CanFresh, Makes, SettlesDraft};
+ghost use Rattle.ap_top.specs.Form.{IsForm};
+ghost use Rattle.ap_top.specs.Base.{registers_alone, base};
+ghost use Rattle.ap_top.specs.Processor.{IsDesign};
+
+use crate::form::Form;
+use ap_net::NoMemory;
+use ap_net::builder::Builder;
+use ap_net::cell::{Cell, TwoOp, Wire};
+use ap_net::module::Module;
+use std::alloc::Global;
+
+/// The registers: the pc, the description's register, and the valid bit and the word of stage 1.
+fn with_registers(alloc: Global, form: Form) -> Result<Builder, NoMemory>
+    requires { IsForm form }
+    ensures { IfOk result (λ out. out ≡ registers_alone form) }
+{
+    let mut out = Builder::new(alloc, b"top")?;
+    let _pc = out.register(b"pc", form.address, 0)?;
+    let _register = out.register(b"r_R", form.width, form.start)?;
+    let _valid = out.register(b"v_1", 1, 0)?;
+    let _word = out.register(b"x_1", form.word, 0)?;
+    Ok(out)
+}
+
+/// The registers, and the ports before the write group: the pc is fetched, nothing stalls and nothing is killed.
+fn with_ports(alloc: Global, form: Form) -> Result<Builder, NoMemory>
+    requires { IsForm form }
+    ensures { IfOk result (λ out. out ≡ base form) }
+{
+    let pc = Wire {
+        number: 0,
+        width: form.address,
+    };
+    let mut out = with_registers(alloc, form)?;
+    let iaddr = out.output(b"iaddr", form.address)?;
+    let _idata = out.input(b"idata", form.word)?;
+    let _mwait = out.input(b"mwait", 1)?;
+    let stall = out.output(b"stall", 1)?;
+    let kill = out.output(b"kill", 1)?;
+    out.cell(iaddr, Cell::Copy(pc))?;
+    out.cell(stall, Cell::Const(0))?;
+    out.cell(kill, Cell::Const(0))?;
+    Ok(out)
+}
+
+/// The address after the pc's.
+#[tactic(auto, using(ap_net::proofs::Laws::laws))]
+fn make_next_address(out: &mut Builder, pc: Wire) -> Result<Wire, NoMemory>
+    requires fresh { CanFresh out.old.nets }
+    requires pc { IsNet out.old.nets pc }
+    requires low { 1 ≤ pc.width }
+    requires high { pc.width ≤ 64 }
+    ensures net { IfOk result (λ w. IsNet out.new.nets w × (w.width ≡ pc.width)) }
+    ensures value { IfOk result (λ w. (read : ℕ → ℕ) → SettlesDraft out.new read → SettlesDraft out.old read × (read w.number ≡ (read pc.number + 1) % 2 ^ pc.width)) }
+    ensures makes { OnOk result (Makes out.old out.new) }
+{
+    let one = out.make(pc.width, Cell::Const(1))?;
+    let after = out.make(pc.width, Cell::Two(TwoOp::Add, pc, one))?;
+    Ok(after)
+}
+
+/// Whether the flight in the stage is the adding instruction.
+#[tactic(auto, using(ap_net::proofs::Laws::laws))]
+fn make_enable(
+    out: &mut Builder,
+    valid: Wire,
+    word: Wire,
+    code: u64,
+) -> Result<Wire, NoMemory>
+    requires fresh { CanFresh out.old.nets }
+    requires valid { IsNet out.old.nets valid }
+    requires one_bit { valid.width ≡ 1 }
+    requires word { IsNet out.old.nets word }
+    requires low { 1 ≤ word.width }
+    requires high { word.width ≤ 64 }
+    requires code { code < 2 ^ word.width }
+    ensures net { IfOk result (λ w. IsNet out.new.nets w × (w.width ≡ 1)) }
+    ensures value { IfOk result (λ w. (read : ℕ → ℕ) → SettlesDraft out.new read → SettlesDraft out.old read × (read w.number ≡ bit_and (read valid.number) (if read word.number == code then 1 else 0))) }
+    ensures makes { OnOk result (Makes out.old out.new) }
+{
+    let wanted = out.make(word.width, Cell::Const(code))?;
+    let hit = out.make(1, Cell::Two(TwoOp::Eq, word, wanted))?;
+    let enable = out.make(1, Cell::Two(TwoOp::And, valid, hit))?;
+    Ok(enable)
+}
+
+/// The register with the constant added.
+#[tactic(auto, using(ap_net::proofs::Laws::laws))]
+fn make_sum(out: &mut Builder, register: Wire, constant: u64) -> Result<Wire, NoMemory>
+    requires fresh { CanFresh out.old.nets }
+    requires register { IsNet out.old.nets register }
+    requires low { 1 ≤ register.width }
+    requires high { register.width ≤ 64 }
+    requires constant { constant < 2 ^ register.width }
+    ensures net { IfOk result (λ w. IsNet out.new.nets w × (w.width ≡ register.width)) }
+    ensures value { IfOk result (λ w. (read : ℕ → ℕ) → SettlesDraft out.new read → SettlesDraft out.old read × (read w.number ≡ (read register.number + constant) % 2 ^ register.width)) }
+    ensures makes { OnOk result (Makes out.old out.new) }
+{
+    let added = out.make(register.width, Cell::Const(constant))?;
+    let sum = out.make(register.width, Cell::Two(TwoOp::Add, register, added))?;
+    Ok(sum)
+}
