@@ -1,11 +1,13 @@
--- The nets of the first form's processor that are declared before any circuit, under their numbers.
-use Rattle.std.specs.Prelude.{ℕ, List, [], ◌∷◌, codes}
+-- How the first form's processor is built: the nets that are declared before any circuit, under their numbers, and the
+-- equations of the circuit over them.
+use Rattle.std.specs.Prelude.{◌≡◌, ℕ, ◌+◌, ◌%◌, ◌^◌, ◌==◌, if◌then◌else◌, List, [], ◌∷◌, codes, bit_and}
 use Rattle.ap_net.specs.declared.cell.Wire.{Wire}
 use Rattle.ap_net.specs.declared.cell.Cell.TheVariants as cell
 use Rattle.ap_net.specs.declared.net.Role.TheVariants.{Input, Output, Register}
 use Rattle.ap_net.specs.declared.net.FlatNet.{FlatNet}
 use Rattle.ap_net.specs.declared.net.Assign.{Assign}
-use Rattle.ap_net.specs.Draft.{Draft}
+use Rattle.ap_net.specs.Cells.{IsNet}
+use Rattle.ap_net.specs.Draft.{Draft, Makes, SettlesDraft}
 use Rattle.ap_top.specs.declared.form.Form.{Form}
 
 -- a declared net
@@ -33,3 +35,32 @@ base_assigns form = record { to = wire 4 form.address; cell = cell.Copy (wire 0 
 
 abbrev pub base : Form → Draft
 base form = record { name = codes "top"; nets = base_nets form; assigns = base_assigns form; nexts = [] }
+
+-- the nets of the circuit that the rest reads
+pub record Nets : Type 0 where
+  pub next_address : Wire
+  pub enable : Wire
+  pub sum : Wire
+  pub written : Wire
+  pub one : Wire
+
+-- what every solution gives them
+pub record Equations (form : Form) (nets : Nets) (read : ℕ → ℕ) : Type 0 where
+  pub iaddr : read 4 ≡ read 0
+  pub stall : read 7 ≡ 0
+  pub kill : read 8 ≡ 0
+  pub next_address : read nets.next_address.number ≡ (read 0 + 1) % 2 ^ form.address
+  pub enable : read nets.enable.number ≡ bit_and (read 2) (if read 3 == form.code then 1 else 0)
+  pub sum : read nets.sum.number ≡ (read 1 + form.constant) % 2 ^ form.width
+  pub written : read nets.written.number ≡ (if read nets.enable.number == 1 then read nets.sum.number else read 1)
+  pub one : read nets.one.number ≡ 1
+
+-- the circuit stands in the draft, over the base
+pub record IsCircuit (form : Form) (d : Draft) (nets : Nets) : Type 0 where
+  pub makes : Makes (base form) d
+  pub next_address : IsNet d.nets nets.next_address × (nets.next_address.width ≡ form.address)
+  pub enable : IsNet d.nets nets.enable × (nets.enable.width ≡ 1)
+  pub sum : IsNet d.nets nets.sum × (nets.sum.width ≡ form.width)
+  pub written : IsNet d.nets nets.written × (nets.written.width ≡ form.width)
+  pub one : IsNet d.nets nets.one × (nets.one.width ≡ 1)
+  pub equations : (read : ℕ → ℕ) → SettlesDraft d read → Equations form nets read

@@ -2,8 +2,8 @@ ghost use Rattle.std.specs.Prelude.{◌≡◌, ℕ, ◌+◌, ◌%◌, ◌^◌, �
 ghost use Rattle.ap_net.specs.Cells.{IsNet};
 ghost use Rattle.ap_net.specs.Draft.{CanFresh, Makes, SettlesDraft};
 ghost use Rattle.ap_top.specs.Form.{IsForm};
-ghost use Rattle.ap_top.specs.Base.{registers_alone, base};
-ghost use Rattle.ap_top.specs.Processor.{IsDesign};
+ghost use Rattle.ap_top.specs.Base.{registers_alone, base, IsCircuit};
+ghost use Rattle.ap_top.specs.Processor.{IsDesignModule};
 
 use crate::form::Form;
 use ap_net::NoMemory;
@@ -102,4 +102,95 @@ fn make_sum(out: &mut Builder, register: Wire, constant: u64) -> Result<Wire, No
     let added = out.make(register.width, Cell::Const(constant))?;
     let sum = out.make(register.width, Cell::Two(TwoOp::Add, register, added))?;
     Ok(sum)
+}
+
+/// The circuit of the machine over its registers, and the nets that the rest reads.
+#[derive(Drop)]
+struct Circuit {
+    out: Builder,
+    next_address: Wire,
+    enable: Wire,
+    sum: Wire,
+    written: Wire,
+    one: Wire,
+}
+
+/// Builds the circuit.
+fn make_circuit(alloc: Global, form: Form) -> Result<Circuit, NoMemory>
+    requires { IsForm form }
+    ensures { IfOk result (λ c. IsCircuit form c.out (record { next_address = c.next_address; enable = c.enable; sum = c.sum; written = c.written; one = c.one })) }
+{
+    let pc = Wire {
+        number: 0,
+        width: form.address,
+    };
+    let register = Wire {
+        number: 1,
+        width: form.width,
+    };
+    let valid = Wire {
+        number: 2,
+        width: 1,
+    };
+    let word = Wire {
+        number: 3,
+        width: form.word,
+    };
+    let mut out = with_ports(alloc, form)?;
+    let next_address = make_next_address(&mut out, pc)?;
+    let enable = make_enable(&mut out, valid, word, form.code)?;
+    let sum = make_sum(&mut out, register, form.constant)?;
+    let written = out.make(form.width, Cell::Choose(enable, sum, register))?;
+    let one = out.make(1, Cell::Const(1))?;
+    Ok(Circuit {
+        out,
+        next_address,
+        enable,
+        sum,
+        written,
+        one,
+    })
+}
+
+/// Shows the write group, says what the registers take, and finishes the module.
+fn finished(form: Form, circuit: Circuit) -> Result<Module, NoMemory>
+    requires form { IsForm form }
+    requires circuit { IsCircuit form circuit.out (record { next_address = circuit.next_address; enable = circuit.enable; sum = circuit.sum; written = circuit.written; one = circuit.one }) }
+    ensures { IfOk result (IsDesignModule form) }
+{
+    let Circuit {
+        mut out,
+        next_address,
+        enable,
+        sum,
+        written,
+        one,
+    } = circuit;
+    out.show(b"w_R_e", 1, Cell::Copy(enable))?;
+    out.show(b"w_R_v", form.width, Cell::Copy(sum))?;
+    let pc = Wire {
+        number: 0,
+        width: form.address,
+    };
+    let register = Wire {
+        number: 1,
+        width: form.width,
+    };
+    let valid = Wire {
+        number: 2,
+        width: 1,
+    };
+    let word = Wire {
+        number: 3,
+        width: form.word,
+    };
+    let fetched = Wire {
+        number: 5,
+        width: form.word,
+    };
+    out.next(pc, next_address)?;
+    out.next(register, written)?;
+    out.next(valid, one)?;
+    out.next(word, fetched)?;
+    out.finish()
 }
