@@ -1,4 +1,4 @@
-use Rattle.std.proofs.Common.{◌≡◌, ℕ, ◌+◌, ◌<◌, ◌≤◌, suc, zero, max, List, [], ◌∷◌, ◌++◌, length, Some, Bool, true, false, refl, sym, ap, subst, ◌∙◌, arith, eq-eqb, append-nil, append_assoc, length-append}
+use Rattle.std.proofs.Common.{◌≡◌, ℕ, ◌+◌, ◌<◌, ◌≤◌, max, List, [], ◌∷◌, ◌++◌, length, Some, Bool, true, false, refl, sym, ap, subst, ◌∙◌, arith, eq-eqb, append-nil, append_assoc, length-append}
 use Rattle.std.specs.Prelude.{slice_get, ◌==◌, if◌then◌else◌}
 use Rattle.std.specs.Bool.{Decides}
 use Rattle.std.proofs.lemmas.Bool.Decides.{Decides-eqb}
@@ -7,11 +7,10 @@ use Rattle.ap_net.specs.declared.cell.Wire.{Wire}
 use Rattle.ap_net.specs.declared.cell.Cell.{Cell}
 use Rattle.ap_net.specs.declared.net.FlatNet.{FlatNet}
 use Rattle.ap_net.specs.declared.net.Assign.{Assign}
-use Rattle.ap_net.specs.declared.net.Next.{Next}
 use Rattle.ap_net.specs.Cells.{operands, IsNet, CellFits, cell_value}
-use Rattle.ap_net.specs.Wiring.{Holds, Ranked, IsWired, Settles}
+use Rattle.ap_net.specs.Wiring.{Holds, Ranked, IsWired}
 use Rattle.ap_net.specs.Draft.{Draft, Begins, Extends, RanksOn, Adds, SettlesDraft}
-use Rattle.ap_net.proofs.Lists.{All-join, All-front, All-back, All-from, All-both, get_left}
+use Rattle.ap_net.proofs.Lists.{All-join, All-front, All-back, All-both, get_left}
 use Rattle.ap_net.proofs.Wired.{width_stays, number-IsNet, operands-CellFits, declared, IsNet-more, CellFits-more}
 
 Begins-trans : {X : Type 0} (xs ys zs : List X) → Begins xs ys → Begins ys zs → Begins xs zs
