@@ -1,4 +1,4 @@
-use Rattle.std.proofs.Common.{◌≡◌, ℕ, ◌+◌, ◌-◌, ◌<◌, ◌≤◌, List, [], ◌++◌, length, get_or, map, Some, Bool, true, false, refl, sym, ap, subst, ◌∙◌, arith, length-append}
+use Rattle.std.proofs.Common.{◌≡◌, ℕ, ◌+◌, ◌-◌, ◌<◌, ◌≤◌, List, [], ◌++◌, length, get_or, map, Some, Bool, true, false, refl, sym, ap, ◌∙◌, arith, length-append}
 use Rattle.std.specs.List.{AllByRecursion as Each}
 use Rattle.std.specs.Prelude.{slice_get, option_map, if◌then◌else◌}
 use Rattle.std.proofs.lemmas.List.{length-map}
@@ -9,7 +9,7 @@ use Rattle.ap_net.specs.declared.net.Port.{Port}
 use Rattle.ap_net.specs.declared.net.Net.{Net}
 use Rattle.ap_net.specs.declared.net.RegNet.{RegNet}
 use Rattle.ap_net.specs.Wiring.{reset_of}
-use Rattle.ap_net.specs.Modules.{ModuleText, nets_of, nets_among, port_net, wire_net, reg_net, reset_at, reset_value, name_at, name_of}
+use Rattle.ap_net.specs.Modules.{ModuleText, nets_of, nets_among, port_net, wire_net, reg_net, reset_at, reset_value}
 use Rattle.ap_net.proofs.Lists.{get_left, All-from, All-front, All-back}
 use Rattle.ap_net.proofs.Renumbered.{All-unmap}
 use Rattle.ap_net.proofs.Numbering.{get_right}

@@ -1,18 +1,15 @@
-use Rattle.std.proofs.Common.{◌≡◌, ℕ, ◌<◌, List, [], ◌∷◌, ◌++◌, length, map, refl, sym, ap, subst, ◌∙◌, Some}
+use Rattle.std.proofs.Common.{◌≡◌, ℕ, ◌<◌, List, length, map, refl, sym, ap, subst, ◌∙◌, Some}
 use Rattle.std.specs.Prelude.{slice_get, slice_index}
 use Rattle.std.proofs.lemmas.List.{length-map}
 use Rattle.std.proofs.lemmas.List.Sums.{length-filter}
 use Rattle.ap_net.specs.declared.net.FlatNet.{FlatNet}
-use Rattle.ap_net.specs.declared.net.Assign.{Assign}
-use Rattle.ap_net.specs.declared.net.Next.{Next}
 use Rattle.ap_net.specs.Names.{IsNetName}
-use Rattle.ap_net.specs.Wiring.{IsWired, IsDriven, Settles, Ranked}
+use Rattle.ap_net.specs.Wiring.{IsWired, IsDriven}
 use Rattle.ap_net.specs.Draft.{Draft, is_wire, wire_count}
 use Rattle.ap_net.specs.Modules.{ModuleText, nets_of, IsModule, port_net, wire_net, ports_among, wires_among, regs_among, assign_placed, next_placed}
 use Rattle.ap_net.specs.Places.{is_port, port_count, place_by}
-use Rattle.ap_net.specs.Flat.{Solves, opened}
 use Rattle.ap_net.specs.Finished.{IsFinished}
-use Rattle.ap_net.proofs.Numbering.{sorted, origins, sorted-among, ports_filter, wires_filter}
+use Rattle.ap_net.proofs.Numbering.{origins, sorted-among, ports_filter, wires_filter}
 use Rattle.ap_net.proofs.Renumbered.{IsRenumbering, sorted-IsRenumbering, IsWired-placed, IsDriven-placed, Settles-placed, Ranked-placed}
 
 pub length-ports_among : (nets : List FlatNet) → length (ports_among nets) ≡ port_count nets

@@ -8,4 +8,8 @@ pub mod Renumbered
 pub mod Finished
 pub mod Among
 pub mod Fronts
+pub mod Solution
+pub mod Fits
+pub mod Unique
+pub mod Found
 pub mod Laws

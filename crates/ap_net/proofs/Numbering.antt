@@ -1,8 +1,7 @@
-use Rattle.std.proofs.Common.{◌≡◌, ◌≢◌, ℕ, ◌+◌, ◌<◌, ◌≤◌, suc, zero, List, [], ◌∷◌, ◌++◌, length, get_or, map, take, Some, None, Option, Bool, true, false, refl, sym, ap, subst, ◌∙◌, arith, inl, inr, ⊎_elim, length-append, add-zero, zero-add, add-suc}
-use Rattle.std.specs.Prelude.{slice_get, slice_index, count_by, ◌⊎◌, if◌then◌else◌}
-use Rattle.std.specs.List.{filter, filter_map}
+use Rattle.std.proofs.Common.{◌≡◌, ℕ, ◌+◌, suc, zero, List, [], ◌∷◌, ◌++◌, length, map, take, Some, Bool, true, false, refl, sym, ap, subst, ◌∙◌, arith, inl, inr, ⊎_elim, length-append, add-zero, zero-add}
+use Rattle.std.specs.Prelude.{slice_get, count_by, ◌⊎◌, if◌then◌else◌}
+use Rattle.std.specs.List.{filter}
 use Rattle.std.proofs.lemmas.List.Sums.{sum_by-cons, length-filter}
-use Rattle.std.proofs.lemmas.Option.{slice_get_within, slice_get-get_or}
 use Rattle.ap_net.specs.declared.net.Role.{Role}
 use Rattle.ap_net.specs.declared.net.Role.TheVariants as role
 use Rattle.ap_net.specs.declared.net.FlatNet.{FlatNet}
@@ -135,10 +134,13 @@ in_three ports wires regs nets n y lp lw r p w q = go r p w q
   where
     first : (i : ℕ) → slice_get ports i ≡ Some y → slice_get (ports ++ wires ++ regs) i ≡ Some y
     first i h = get_left (ports ++ wires) regs i y (get_left ports wires i y h)
+
     second : (i : ℕ) → slice_get wires i ≡ Some y → slice_get (ports ++ wires ++ regs) (port_count nets + i) ≡ Some y
     second i h = rw (← lp) (get_left (ports ++ wires) regs (length ports + i) y (get_right ports wires i ∙ h))
+
     third : (i : ℕ) → slice_get regs i ≡ Some y → slice_get (ports ++ wires ++ regs) ((port_count nets + wire_count nets) + i) ≡ Some y
     third i h = let both : length (ports ++ wires) ≡ port_count nets + wire_count nets = length-append ports wires ∙ (λ j. lp j + lw j) in rw (← both) (get_right (ports ++ wires) regs i ∙ h)
+
     go : (r : Role) → (has_port_role r ≡ true → slice_get ports (port_count (take n nets)) ≡ Some y) → (is_plain r ≡ true → slice_get wires (wire_count (take n nets)) ≡ Some y)
         → (has_register_role r ≡ true → slice_get regs (register_count (take n nets)) ≡ Some y) → slice_get (ports ++ wires ++ regs) (place_by r nets n) ≡ Some y
     go role.Input p w q = first (port_count (take n nets)) (p refl)

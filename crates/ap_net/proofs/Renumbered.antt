@@ -1,4 +1,4 @@
-use Rattle.std.proofs.Common.{◌≡◌, ◌≢◌, ℕ, ◌+◌, ◌<◌, ◌≤◌, ◌^◌, suc, zero, List, [], ◌∷◌, ◌++◌, length, map, Some, None, Option, refl, sym, ap, subst, ◌∙◌, arith}
+use Rattle.std.proofs.Common.{◌≡◌, ◌≢◌, ℕ, ◌<◌, ◌≤◌, ◌^◌, suc, zero, List, [], ◌∷◌, length, map, Some, refl, sym, ap, subst, ◌∙◌, arith}
 use Rattle.std.specs.Prelude.{slice_get, slice_index, codes, option_map}
 use Rattle.std.specs.List.{AllByRecursion as Each}
 use Rattle.std.proofs.lemmas.List.{length-map}
@@ -6,16 +6,15 @@ use Rattle.std.proofs.lemmas.Option.{slice_get_within, slice_get-map, get_or_fro
 use Rattle.ap_net.specs.declared.cell.Wire.{Wire}
 use Rattle.ap_net.specs.declared.cell.Cell.{Cell}
 use Rattle.ap_net.specs.declared.cell.Cell.TheVariants as cell
-use Rattle.ap_net.specs.declared.net.Role.TheVariants as role
 use Rattle.ap_net.specs.declared.net.FlatNet.{FlatNet}
 use Rattle.ap_net.specs.declared.net.Assign.{Assign}
 use Rattle.ap_net.specs.declared.net.Next.{Next}
-use Rattle.ap_net.specs.Names.{IsNetName, IsNew, AreDistinct}
+use Rattle.ap_net.specs.Names.{IsNetName, AreDistinct}
 use Rattle.ap_net.specs.Cells.{operands, widths_of, IsNet, CellFits, cell_value}
-use Rattle.ap_net.specs.Wiring.{IsSource, reset_of, IsFree, IsRegister, Undriven, Unclocked, DrivenOnce, ClockedOnce, taken_names, NextFits, IsWired, IsDriven, Holds, Settles, Ranked}
+use Rattle.ap_net.specs.Wiring.{reset_of, IsFree, DrivenOnce, ClockedOnce, NextFits, IsWired, IsDriven, Holds, Settles, Ranked}
 use Rattle.ap_net.specs.Modules.{placed, cell_placed, assign_placed, next_placed}
 use Rattle.ap_net.specs.Places.{place_by}
-use Rattle.ap_net.proofs.Lists.{All-join, All-from, All-both, All-at, some_same}
+use Rattle.ap_net.proofs.Lists.{All-from, All-both, All-at, some_same}
 use Rattle.ap_net.proofs.Wired.{number-IsNet, declared}
 use Rattle.ap_net.proofs.Numbering.{sorted, origins, sorted_at, origin_at, length-origins, Seat, seat_of}
 
@@ -175,11 +174,13 @@ module _ (olds news : List FlatNet) (place back : ℕ → ℕ) (r : IsRenumberin
         names = Each-placed (λ (n : FlatNet). IsNetName n.name) h.names;
         distinct = (
           (h.distinct.0.0, All-map (λ name. name ≢ codes "clk") (λ (x : FlatNet). x.name) news (Each-placed (λ (x : FlatNet). x.name ≢ codes "clk") own)),
-          (All-map (λ name. name ≢ codes "rst") (λ (x : FlatNet). x.name) news (Each-placed (λ (x : FlatNet). x.name ≢ codes "rst") own'),
-          distinct_names news (λ i j a b p q e.
-          let lt : i < length news = slice_get_within news i a p in
-          let lt' : j < length news = slice_get_within news j b q in
-          sym (r.covers i lt) ∙ ap place (names_differ olds (back i) (back j) a b h.distinct.1.1 (old_net i a p) (old_net j b q) e) ∙ r.covers j lt')),
+          (
+            All-map (λ name. name ≢ codes "rst") (λ (x : FlatNet). x.name) news (Each-placed (λ (x : FlatNet). x.name ≢ codes "rst") own'),
+            distinct_names news (λ i j a b p q e.
+                let lt : i < length news = slice_get_within news i a p in
+                let lt' : j < length news = slice_get_within news j b q in
+                sym (r.covers i lt) ∙ ap place (names_differ olds (back i) (back j) a b h.distinct.1.1 (old_net i a p) (old_net j b q) e) ∙ r.covers j lt'),
+          ),
         );
         widths = Each-placed (λ (n : FlatNet). (1 ≤ n.width) × (n.width ≤ 64)) h.widths;
         resets = Each-placed (λ (n : FlatNet). reset_of n.role < 2 ^ n.width) h.resets;

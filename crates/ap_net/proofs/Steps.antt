@@ -1,4 +1,4 @@
-use Rattle.std.proofs.Common.{◌≡◌, ℕ, ◌+◌, ◌<◌, ◌≤◌, Bool, true, false, arith, ⊎_elim, List, [], ◌∷◌, ◌++◌, length, get_or, take, Some, None, Option, sym, ap, subst, ◌∙◌, append-nil, refl}
+use Rattle.std.proofs.Common.{◌≡◌, ℕ, ◌+◌, ◌<◌, Bool, true, false, arith, ⊎_elim, List, [], ◌∷◌, ◌++◌, length, get_or, take, Some, None, Option, sym, ap, ◌∙◌, append-nil, refl}
 use Rattle.std.specs.Prelude.{slice_get, slice_index, count_by}
 use Rattle.std.specs.List.{filter_map}
 use Rattle.std.proofs.Math.Seq.{get_or-append_seam}

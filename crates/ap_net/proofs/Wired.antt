@@ -1,4 +1,4 @@
-use Rattle.std.proofs.Common.{◌≡◌, ◌≢◌, ℕ, ◌+◌, ◌<◌, ◌≤◌, ◌^◌, suc, zero, List, [], ◌∷◌, ◌++◌, length, map, Some, refl, sym, ap, subst, ◌∙◌, arith, Bool, true, false, zero-add}
+use Rattle.std.proofs.Common.{◌≡◌, ◌≢◌, ℕ, ◌+◌, ◌<◌, ◌≤◌, ◌^◌, List, [], ◌∷◌, ◌++◌, length, Some, refl, sym, ap, subst, ◌∙◌, arith, Bool, true, false, zero-add}
 use Rattle.std.specs.Prelude.{slice_get, codes, if◌then◌else◌}
 use Rattle.std.specs.List.{AllByRecursion as Each}
 use Rattle.std.specs.Fmt.{decimal}
@@ -9,13 +9,12 @@ use Rattle.std.proofs.lemmas.Option.{slice_get_within}
 use Rattle.ap_net.specs.declared.cell.Wire.{Wire}
 use Rattle.ap_net.specs.declared.cell.Cell.{Cell}
 use Rattle.ap_net.specs.declared.cell.Cell.TheVariants as cell
-use Rattle.ap_net.specs.declared.net.Role.TheVariants as role
 use Rattle.ap_net.specs.declared.net.FlatNet.{FlatNet}
 use Rattle.ap_net.specs.declared.net.Assign.{Assign}
 use Rattle.ap_net.specs.declared.net.Next.{Next}
 use Rattle.ap_net.specs.Names.{IsNetName, IsNew, AreDistinct, numbered, IsNotNumbered, HasFresh}
 use Rattle.ap_net.specs.Cells.{operands, widths_of, IsNet, CellFits}
-use Rattle.ap_net.specs.Wiring.{IsSource, reset_of, IsFree, IsRegister, Undriven, Unclocked, DrivenOnce, ClockedOnce, taken_names, NextFits, IsWired}
+use Rattle.ap_net.specs.Wiring.{IsSource, reset_of, IsFree, Undriven, Unclocked, DrivenOnce, ClockedOnce, taken_names, NextFits, IsWired}
 use Rattle.ap_net.specs.Draft.{is_plain, is_wire, wire_count, CanFresh}
 use Rattle.ap_net.proofs.NameLemmas.{IsNew-is_new}
 use Rattle.ap_net.proofs.Lists.{All-join, All-from, All-both, same_left, get_left, get_end, some_same}

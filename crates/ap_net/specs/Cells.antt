@@ -1,5 +1,5 @@
 -- What cells mean, by IEEE 1364 on unsigned two-valued nets, and which widths they need.
-use Rattle.std.specs.Prelude.{◌≡◌, ℕ, ◌+◌, ◌-◌, ◌*◌, ◌/◌, ◌%◌, ◌^◌, ◌<◌, ◌≤◌, List, [], ◌∷◌, bit_and, bit_or, bit_xor, slice_index, slice_get, map, Some, ◌==◌, nat_lt, if◌then◌else◌}
+use Rattle.std.specs.Prelude.{◌≡◌, ℕ, ◌+◌, ◌-◌, ◌*◌, ◌/◌, ◌%◌, ◌^◌, ◌<◌, ◌≤◌, List, [], ◌∷◌, bit_and, bit_or, bit_xor, slice_get, map, Some, ◌==◌, nat_lt, if◌then◌else◌}
 use Rattle.ap_net.specs.declared.cell.Wire.{Wire}
 use Rattle.ap_net.specs.declared.cell.TwoOp.{TwoOp}
 use Rattle.ap_net.specs.declared.cell.TwoOp.TheVariants as op

@@ -1,11 +1,12 @@
 -- A netlist's nets opened into one list, and the solutions of its equations. Today a netlist has the one module `top`.
-use Rattle.std.specs.Prelude.{◌≡◌, ℕ, List, [], ◌∷◌, length, slice_index, if◌then◌else◌}
+use Rattle.std.specs.Prelude.{◌≡◌, ℕ, List, [], ◌∷◌, length, map, slice_get, slice_index, Some, if◌then◌else◌}
 use Rattle.std.specs.Str.{bytes_eq}
 use Rattle.ap_net.specs.declared.net.FlatNet.{FlatNet}
 use Rattle.ap_net.specs.declared.net.Port.{Port}
 use Rattle.ap_net.specs.declared.net.Assign.{Assign}
 use Rattle.ap_net.specs.declared.net.Next.{Next}
-use Rattle.ap_net.specs.Wiring.{Settles}
+use Rattle.ap_net.specs.Names.{AreDistinct}
+use Rattle.ap_net.specs.Wiring.{Settles, IsWired}
 use Rattle.ap_net.specs.Modules.{ModuleText, nets_of, name_at}
 
 -- the nets of all parts in one list, and what drives them
@@ -45,3 +46,13 @@ register_among nets (x ∷ nexts) (value ∷ registers) name = if bytes_eq (name
 
 abbrev pub register_named : Flat → List ℕ → List ℕ → ℕ
 register_named f registers name = register_among f.nets f.nexts registers name
+
+-- in a solution each net's number is found by its name
+abbrev pub NamesAreFound : Type 0
+NamesAreFound = (nets : List FlatNet) → AreDistinct (map (λ n. n.name) nets) → (v : List ℕ) → length v ≡ length nets
+    → (n : ℕ) (net : FlatNet) → slice_get nets n ≡ Some net → value_named nets v net.name ≡ slice_index v n
+
+-- and what a register holds by the register's name
+abbrev pub RegistersAreFound : Type 0
+RegistersAreFound = (f : Flat) → IsWired f.nets f.assigns f.nexts → (registers : List ℕ) → length registers ≡ length f.nexts
+    → (k : ℕ) (x : Next) → slice_get f.nexts k ≡ Some x → register_named f registers (name_at f.nets x.register.number) ≡ slice_index registers k

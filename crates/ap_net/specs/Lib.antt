@@ -7,6 +7,7 @@ pub mod Places
 pub mod Flat
 pub mod Finished
 pub mod Outside
+pub mod Sources
 pub mod Runs
 pub mod Rows
 pub mod Text

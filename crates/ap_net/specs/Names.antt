@@ -1,5 +1,5 @@
 -- Names of the Verilog subset, as lists of bytes. The list of barred words is the project's own.
-use Rattle.std.specs.Prelude.{◌≡◌, ◌≢◌, ℕ, ◌<◌, ◌≤◌, ◌^◌, ◌==◌, ◌&&◌, ◌||◌, nat_le, not, IsTrue, Bool, true, false, List, [], ◌∷◌, length, codes}
+use Rattle.std.specs.Prelude.{◌≢◌, ℕ, ◌<◌, ◌≤◌, ◌^◌, ◌==◌, ◌&&◌, ◌||◌, nat_le, not, IsTrue, Bool, false, List, [], ◌∷◌, length, codes}
 use Rattle.std.specs.Char.{is_ascii_alphabetic, is_ascii_alphanumeric}
 use Rattle.std.specs.List.{list_all, list_any, AllByRecursion as Each}
 use Rattle.std.specs.Str.{bytes_eq}

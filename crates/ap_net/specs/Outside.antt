@@ -119,4 +119,3 @@ abbrev pub line_at : List TraceLine → List InPort → ℕ → TraceLine
 line_at [] inputs j = idle inputs
 line_at (line ∷ trace) inputs zero = line
 line_at (line ∷ trace) inputs (suc j) = line_at trace inputs j
-

@@ -40,4 +40,3 @@ shown_row o f v = record {
   kill = value_named f.nets v (codes "kill") == 1;
   writes = group_writes f.nets v 0 o.groups ++ mem_writes f.nets v (length o.groups) o.mems;
 }
-

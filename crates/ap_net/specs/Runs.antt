@@ -1,5 +1,5 @@
 -- Runs of a netlist in its environment: memories that answer in the same cycle and take a write at the edge.
-use Rattle.std.specs.Prelude.{◌≡◌, ℕ, zero, suc, ◌+◌, ◌<◌, ◌==◌, List, [], ◌∷◌, map, codes, slice_index, Option, Some, None, Bool, if◌then◌else◌}
+use Rattle.std.specs.Prelude.{◌≡◌, ℕ, zero, suc, ◌+◌, ◌<◌, ◌==◌, List, [], ◌∷◌, map, codes, slice_index, Bool, if◌then◌else◌}
 use Rattle.ap_net.specs.declared.net.FlatNet.{FlatNet}
 use Rattle.ap_net.specs.Modules.{reset_at}
 use Rattle.ap_net.specs.Flat.{Flat, Solves, value_named}
@@ -61,4 +61,3 @@ pub record Cycle (o : Outside) (f : Flat) (code : List ℕ) (line : TraceLine) (
 pub record Runs (o : Outside) (f : Flat) (image : Image) (trace : List TraceLine) (c : ℕ) (states : ℕ → NetState) (valuations : ℕ → List ℕ) : Type 0 where
   pub starts : states 0 ≡ reset_state f image
   pub goes : (j : ℕ) → j < c → Cycle o f image.code (line_at trace o.inputs j) (states j) (valuations j) (states (j + 1))
-

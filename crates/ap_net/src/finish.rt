@@ -197,7 +197,11 @@ fn cell_under(cell: Cell, places: &[usize]) -> Cell
         Cell::Copy(a) => Cell::Copy(wire_placed(a, places)),
         Cell::Not(a) => Cell::Not(wire_placed(a, places)),
         Cell::Two(op, a, b) => Cell::Two(op, wire_placed(a, places), wire_placed(b, places)),
-        Cell::Choose(s, a, b) => Cell::Choose(wire_placed(s, places), wire_placed(a, places), wire_placed(b, places)),
+        Cell::Choose(s, a, b) => Cell::Choose(
+            wire_placed(s, places),
+            wire_placed(a, places),
+            wire_placed(b, places),
+        ),
         Cell::Cat(a, b) => Cell::Cat(wire_placed(a, places), wire_placed(b, places)),
         Cell::Slice(a, high, low) => Cell::Slice(wire_placed(a, places), high, low),
     }
@@ -223,11 +227,7 @@ fn assigns_under(
 }
 
 /// The registers' drivers over the numbers of the finished module.
-fn nexts_under(
-    alloc: Global,
-    nexts: &[Next],
-    places: &[usize],
-) -> Result<Vec<Next>, NoMemory>
+fn nexts_under(alloc: Global, nexts: &[Next], places: &[usize]) -> Result<Vec<Next>, NoMemory>
     requires registers { Each (λ (x : Next). x.register.number < length places.now) nexts.now }
     requires froms { Each (λ (x : Next). x.from.number < length places.now) nexts.now }
     ensures { IfOk result (λ made. made.items ≡ map (next_placed (slice_index places.now)) nexts.now) }

@@ -8,6 +8,7 @@ pub mod memory;
 pub mod module;
 pub mod name;
 pub mod net;
+pub mod solve;
 pub mod write;
 
 pub use memory::NoMemory;

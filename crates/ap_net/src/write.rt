@@ -89,12 +89,7 @@ fn constant_string(alloc: Global, width: u32, value: u64) -> Result<String, NoMe
 }
 
 /// The right side of an assign whose result has `width` bits.
-fn cell_string(
-    alloc: Global,
-    whole: &Module,
-    width: u32,
-    cell: Cell,
-) -> Result<String, NoMemory>
+fn cell_string(alloc: Global, whole: &Module, width: u32, cell: Cell) -> Result<String, NoMemory>
     requires { Each (λ (o : Wire). o.number < length (nets_of whole.now)) (operands cell) }
     ensures { IfOk result (λ text. string_bytes text ≡ cell_text (nets_of whole.now) width cell) }
 {
@@ -167,12 +162,7 @@ fn clocked_string(alloc: Global, at_reset: &str, at_edge: &str) -> Result<String
 }
 
 /// Appends the line of a register's driver.
-fn put_next(
-    alloc: Global,
-    whole: &Module,
-    next: Next,
-    out: &mut Vec<u8>,
-) -> Result<(), NoMemory>
+fn put_next(alloc: Global, whole: &Module, next: Next, out: &mut Vec<u8>) -> Result<(), NoMemory>
     requires register { next.register.number < length (nets_of whole.now) }
     requires from { next.from.number < length (nets_of whole.now) }
     ensures ok { OnOk result (out.new.items ≡ out.old.items ++ always_line (nets_of whole.now) next) }
@@ -192,11 +182,7 @@ fn put_next(
 }
 
 /// Appends the texts of ports.
-fn put_ports(
-    alloc: Global,
-    ports: &[Port],
-    out: &mut Vec<u8>,
-) -> Result<(), NoMemory>
+fn put_ports(alloc: Global, ports: &[Port], out: &mut Vec<u8>) -> Result<(), NoMemory>
     requires { Each (λ (x : Port). 1 ≤ x.width) ports.now }
     ensures { OnOk result (out.new.items ≡ out.old.items ++ flat_map port_text ports.now) }
 {
@@ -207,11 +193,7 @@ fn put_ports(
 }
 
 /// Appends the lines of wires.
-fn put_wires(
-    alloc: Global,
-    wires: &[Net],
-    out: &mut Vec<u8>,
-) -> Result<(), NoMemory>
+fn put_wires(alloc: Global, wires: &[Net], out: &mut Vec<u8>) -> Result<(), NoMemory>
     requires { Each (λ (x : Net). 1 ≤ x.width) wires.now }
     ensures { OnOk result (out.new.items ≡ out.old.items ++ flat_map wire_line wires.now) }
 {
@@ -222,11 +204,7 @@ fn put_wires(
 }
 
 /// Appends the lines of registers.
-fn put_regs(
-    alloc: Global,
-    regs: &[RegNet],
-    out: &mut Vec<u8>,
-) -> Result<(), NoMemory>
+fn put_regs(alloc: Global, regs: &[RegNet], out: &mut Vec<u8>) -> Result<(), NoMemory>
     requires { Each (λ (x : RegNet). 1 ≤ x.width) regs.now }
     ensures { OnOk result (out.new.items ≡ out.old.items ++ flat_map reg_line regs.now) }
 {

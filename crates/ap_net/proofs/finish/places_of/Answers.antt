@@ -1,9 +1,9 @@
-use Rattle.std.proofs.Common.{◌≡◌, ◌<◌, ◌+◌, length, length-append, refl, ap, sym, ◌∙◌, arith}
+use Rattle.std.proofs.Common.{◌<◌, ◌+◌, length, length-append, refl, ap, ◌∙◌, arith}
 use Rattle.std.proofs.lemmas.Option.{slice_get_within}
 use Rattle.ap_net.specs.declared.net.FlatNet.{FlatNet}
 use Rattle.ap_net.specs.declared.finish.Free.{Free}
 use Rattle.ap_net.specs.Draft.{is_wire, wire_count}
-use Rattle.ap_net.specs.Places.{is_port, is_register, port_count, place_by, number_by}
+use Rattle.ap_net.specs.Places.{is_port, is_register, port_count, place_by}
 use Rattle.ap_net.proofs.Steps.{first_after, free_after, each_more}
 use Rattle.ap_net.proofs.finish.places_of.Goals as goal
 

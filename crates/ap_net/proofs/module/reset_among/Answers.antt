@@ -1,4 +1,4 @@
-use Rattle.std.proofs.Common.{◌∙◌, ap, sym}
+use Rattle.std.proofs.Common.{ap, sym}
 use Rattle.ap_net.specs.Modules.{reset_value}
 use Rattle.ap_net.proofs.Among.{at_reg, port_reset, wire_reset, past}
 use Rattle.ap_net.proofs.module.reset_among.Goals as goal

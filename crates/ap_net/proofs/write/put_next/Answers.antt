@@ -1,4 +1,4 @@
-use Rattle.std.proofs.Common.{◌≡◌, ◌∙◌, List, ℕ}
+use Rattle.std.proofs.Common.{◌≡◌, ◌∙◌}
 use Rattle.ap_net.specs.Modules.{nets_of, reset_at, name_at}
 use Rattle.ap_net.specs.Text.{always_line, clocked_text, taken_text, constant_text}
 use Rattle.ap_net.proofs.write.put_next.Goals as goal

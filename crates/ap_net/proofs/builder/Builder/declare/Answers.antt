@@ -1,4 +1,4 @@
-use Rattle.std.proofs.Common.{◌≡◌, ◌+◌, ◌<◌, ◌^◌, ap, sym, ◌∙◌, arith}
+use Rattle.std.proofs.Common.{◌+◌, ◌<◌, ◌^◌, ap, sym, ◌∙◌, arith}
 use Rattle.ap_net.specs.Draft.{is_plain, wire_count}
 use Rattle.ap_net.proofs.Drafts.{Adds-declare}
 use Rattle.ap_net.proofs.Wired.{IsWired-declare, wire_count-push, CanFresh-declare, CanFresh-fresh}
