@@ -1,13 +1,17 @@
 -- How the first form's processor is built: the nets that are declared before any circuit, under their numbers, and the
 -- equations of the circuit over them.
-use Rattle.std.specs.Prelude.{◌≡◌, ℕ, ◌+◌, ◌%◌, ◌^◌, ◌==◌, if◌then◌else◌, List, [], ◌∷◌, codes, bit_and}
+use Rattle.std.specs.Prelude.{◌≡◌, ℕ, ◌+◌, ◌%◌, ◌^◌, ◌==◌, if◌then◌else◌, List, [], ◌∷◌, codes, slice_get, Some, bit_and}
 use Rattle.ap_net.specs.declared.cell.Wire.{Wire}
 use Rattle.ap_net.specs.declared.cell.Cell.TheVariants as cell
 use Rattle.ap_net.specs.declared.net.Role.TheVariants.{Input, Output, Register}
 use Rattle.ap_net.specs.declared.net.FlatNet.{FlatNet}
 use Rattle.ap_net.specs.declared.net.Assign.{Assign}
 use Rattle.ap_net.specs.Cells.{IsNet}
-use Rattle.ap_net.specs.Draft.{Draft, Makes, SettlesDraft}
+use Rattle.ap_net.specs.Draft.{Draft, Adds, Closes, Makes, SettlesDraft}
+use Rattle.ap_net.specs.Modules.{ports_among}
+use Rattle.ap_net.specs.Outside.{ports_of}
+use Rattle.ap_net.specs.declared.net.Next.{Next}
+use Rattle.ap_top.specs.Processor.{outside_of}
 use Rattle.ap_top.specs.declared.form.Form.{Form}
 
 -- a declared net
@@ -64,3 +68,22 @@ pub record IsCircuit (form : Form) (d : Draft) (nets : Nets) : Type 0 where
   pub written : IsNet d.nets nets.written × (nets.written.width ≡ form.width)
   pub one : IsNet d.nets nets.one × (nets.one.width ≡ 1)
   pub equations : (read : ℕ → ℕ) → SettlesDraft d read → Equations form nets read
+
+-- the write group is shown besides: its two ports stand at these numbers
+pub record IsShown (form : Form) (d : Draft) (nets : Nets) : Type 0 where
+  pub adds : Adds (base form) d
+  pub closes : Closes (base form) d
+  pub next_address : IsNet d.nets nets.next_address × (nets.next_address.width ≡ form.address)
+  pub written : IsNet d.nets nets.written × (nets.written.width ≡ form.width)
+  pub one : IsNet d.nets nets.one × (nets.one.width ≡ 1)
+  pub ports : ports_among d.nets ≡ ports_of (outside_of form)
+  pub write_enable : ℕ
+  pub write_value : ℕ
+  pub enable_there : slice_get d.nets write_enable ≡ Some (record { name = codes "w_R_e"; width = 1; role = Output })
+  pub value_there : slice_get d.nets write_value ≡ Some (record { name = codes "w_R_v"; width = form.width; role = Output })
+  pub equations : (read : ℕ → ℕ) → SettlesDraft d read → Equations form nets read × (read write_enable ≡ read nets.enable.number) × (read write_value ≡ read nets.sum.number)
+
+-- what the four registers take
+abbrev pub four_nexts : Form → Nets → List Next
+four_nexts form nets = record { register = wire 0 form.address; from = nets.next_address } ∷ record { register = wire 1 form.width; from = nets.written }
+    ∷ record { register = wire 2 1; from = nets.one } ∷ record { register = wire 3 form.word; from = wire 5 form.word } ∷ []

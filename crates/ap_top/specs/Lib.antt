@@ -2,8 +2,9 @@ pub mod Commands
 pub mod Form
 pub mod Found
 pub mod Machine
-pub mod Base
 pub mod Processor
+pub mod Base
+pub mod Circuits
 pub mod DesignText
 pub mod Refusals
 pub mod Inputs

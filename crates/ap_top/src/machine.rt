@@ -2,7 +2,8 @@ ghost use Rattle.std.specs.Prelude.{◌≡◌, ℕ, ◌+◌, ◌%◌, ◌^◌, �
 ghost use Rattle.ap_net.specs.Cells.{IsNet};
 ghost use Rattle.ap_net.specs.Draft.{CanFresh, Makes, SettlesDraft};
 ghost use Rattle.ap_top.specs.Form.{IsForm};
-ghost use Rattle.ap_top.specs.Base.{registers_alone, base, IsCircuit};
+ghost use Rattle.ap_top.specs.Base.{registers_alone, base, IsCircuit, IsShown};
+ghost use Rattle.ap_top.specs.Circuits.{nets_of};
 ghost use Rattle.ap_top.specs.Processor.{IsDesignModule};
 
 use crate::form::Form;
@@ -118,7 +119,7 @@ struct Circuit {
 /// Builds the circuit.
 fn make_circuit(alloc: Global, form: Form) -> Result<Circuit, NoMemory>
     requires { IsForm form }
-    ensures { IfOk result (λ c. IsCircuit form c.out (record { next_address = c.next_address; enable = c.enable; sum = c.sum; written = c.written; one = c.one })) }
+    ensures { IfOk result (λ c. IsCircuit form c.out (nets_of c)) }
 {
     let pc = Wire {
         number: 0,
@@ -152,45 +153,17 @@ fn make_circuit(alloc: Global, form: Form) -> Result<Circuit, NoMemory>
     })
 }
 
-/// Shows the write group, says what the registers take, and finishes the module.
-fn finished(form: Form, circuit: Circuit) -> Result<Module, NoMemory>
+/// Shows the write group: its enable and its value.
+fn show_group(form: Form, circuit: &mut Circuit) -> Result<(), NoMemory>
     requires form { IsForm form }
-    requires circuit { IsCircuit form circuit.out (record { next_address = circuit.next_address; enable = circuit.enable; sum = circuit.sum; written = circuit.written; one = circuit.one }) }
-    ensures { IfOk result (IsDesignModule form) }
+    requires circuit { IsCircuit form circuit.old.out (nets_of circuit.old) }
+    ensures shown { OnOk result (IsShown form circuit.new.out (nets_of circuit.new)) }
+    ensures nexts { OnOk result (circuit.new.out.nexts ≡ []) }
 {
-    let Circuit {
-        mut out,
-        next_address,
-        enable,
-        sum,
-        written,
-        one,
-    } = circuit;
+    let enable = circuit.enable;
+    let sum = circuit.sum;
+    let out = &mut circuit.out;
     out.show(b"w_R_e", 1, Cell::Copy(enable))?;
     out.show(b"w_R_v", form.width, Cell::Copy(sum))?;
-    let pc = Wire {
-        number: 0,
-        width: form.address,
-    };
-    let register = Wire {
-        number: 1,
-        width: form.width,
-    };
-    let valid = Wire {
-        number: 2,
-        width: 1,
-    };
-    let word = Wire {
-        number: 3,
-        width: form.word,
-    };
-    let fetched = Wire {
-        number: 5,
-        width: form.word,
-    };
-    out.next(pc, next_address)?;
-    out.next(register, written)?;
-    out.next(valid, one)?;
-    out.next(word, fetched)?;
-    out.finish()
+    Ok(())
 }
