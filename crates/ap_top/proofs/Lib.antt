@@ -3,3 +3,5 @@ pub mod Changes
 pub mod Calls
 pub mod Matching
 pub mod Stopping
+pub mod TwoStage
+pub mod Behaviour

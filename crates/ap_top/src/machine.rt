@@ -11,6 +11,7 @@ use ap_net::NoMemory;
 use ap_net::builder::Builder;
 use ap_net::cell::{Cell, TwoOp, Wire};
 use ap_net::module::Module;
+use ap_net::solve::{names_are_found, solution_exists};
 use std::alloc::Global;
 
 /// The registers: the pc, the description's register, and the valid bit and the word of stage 1.
@@ -166,4 +167,43 @@ fn show_group(form: Form, circuit: &mut Circuit) -> Result<(), NoMemory>
     out.show(b"w_R_e", 1, Cell::Copy(enable))?;
     out.show(b"w_R_v", form.width, Cell::Copy(sum))?;
     Ok(())
+}
+
+/// Says what the registers take, and finishes the module.
+fn clocked(form: Form, circuit: Circuit) -> Result<Module, NoMemory>
+    requires form { IsForm form }
+    requires shown { IsShown form circuit.out (nets_of circuit) }
+    requires nexts { circuit.out.nexts ≡ [] }
+    ensures { IfOk result (IsDesignModule form) }
+{
+    let pc = Wire {
+        number: 0,
+        width: form.address,
+    };
+    let register = Wire {
+        number: 1,
+        width: form.width,
+    };
+    let valid = Wire {
+        number: 2,
+        width: 1,
+    };
+    let word = Wire {
+        number: 3,
+        width: form.word,
+    };
+    let fetched = Wire {
+        number: 5,
+        width: form.word,
+    };
+    let mut out = circuit.out;
+    out.next(pc, circuit.next_address)?;
+    out.next(register, circuit.written)?;
+    out.next(valid, circuit.one)?;
+    out.next(word, fetched)?;
+    solution_exists();
+    names_are_found();
+    let top = out.finish()?;
+    top.rules();
+    Ok(top)
 }

@@ -1,0 +1,145 @@
+use Rattle.std.proofs.Common.{◌≡◌, ℕ, zero, suc, ◌+◌, ◌<◌, ◌≤◌, ◌%◌, ◌^◌, List, [], ◌∷◌, ◌++◌, length, map, Bool, true, false, Option, Some, None, refl, sym, ap, subst, ◌∙◌, arith, lit<}
+use Rattle.std.specs.Prelude.{slice_index, slice_get, ◌==◌, if◌then◌else◌, bit_and, codes, option_map}
+use Rattle.std.specs.List.{AllByRecursion as Each}
+use Rattle.std.proofs.lemmas.Nat.{pow_pos}
+use Rattle.std.proofs.lemmas.List.{length-map}
+use Rattle.std.proofs.lemmas.Option.{slice_get_within, slice_get-map}
+use Rattle.ap_net.specs.declared.cell.Wire.{Wire}
+use Rattle.ap_net.specs.declared.net.FlatNet.{FlatNet}
+use Rattle.ap_net.specs.declared.net.Next.{Next}
+use Rattle.ap_net.specs.Cells.{IsNet, widths_of}
+use Rattle.ap_net.specs.Wiring.{IsSource, Ranked}
+use Rattle.ap_net.specs.Draft.{Draft, RanksOn}
+use Rattle.ap_net.specs.Modules.{ModuleText, IsModule, nets_of, next_placed, reset_at, reset_value, name_at, name_of}
+use Rattle.ap_net.specs.Flat.{Flat, Solves, opened, value_named, register_named, NamesAreFound, RegistersAreFound}
+use Rattle.ap_net.specs.Finished.{IsFinished}
+use Rattle.ap_net.specs.Outside.{Image, TraceLine, ImageFits, TraceFits, line_at}
+use Rattle.ap_net.specs.Runs.{NetState, Cycle, Runs, reset_state, bit}
+use Rattle.ap_net.specs.Rows.{Row, shown_row}
+use Rattle.ap_net.specs.Sources.{Given, IsOrderedWith, AlwaysSolvable}
+use Rattle.ap_net.proofs.Laws.{net-Adds}
+use Rattle.ap_top.specs.declared.form.Form.{Form}
+use Rattle.ap_top.specs.Form.{IsForm}
+use Rattle.ap_top.specs.Machine.{State, start, cycle, over, row, fire, written, writes_of, sum_of}
+use Rattle.ap_top.specs.Processor.{outside_of, HoldsFlight, Keeps, IsProcessor, IsDesign, IsDesignModule}
+use Rattle.ap_top.specs.Base.{base, base_nets, base_assigns, wire, Nets, Equations, IsShown, four_nexts}
+use Rattle.ap_top.proofs.TwoStage.{clocked_draft, base_rank, base_ranked, given, given_looks, given_fits, FourFit, HoldsState, fires, written_by, same}
+
+-- the writes of the group, by its enable
+group_shown : (b : Bool) (sum : ℕ) → (if b then record { group = 0; index = None; value = sum } ∷ [] else []) ++ [] ≡ writes_of (if b then Some sum else None)
+group_shown true sum = refl
+group_shown false sum = refl
+
+-- the module of a shown circuit does what the machine does
+module _ (form : Form) (ok : IsForm form) (d : Draft) (nets : Nets) (shown : IsShown form d nets) (m : ModuleText) (fin : IsFinished (clocked_draft form d nets) m) (kept : IsModule m)
+    (found : NamesAreFound) (registers_found : RegistersAreFound) (solvable : AlwaysSolvable) where
+
+  abbrev flat : Flat
+  flat = record { nets = nets_of m; assigns = m.assigns; nexts = m.nexts }
+
+  -- a net of the base stands in the draft
+  based : (n : ℕ) (net : FlatNet) → slice_get (base_nets form) n ≡ Some net → slice_get d.nets n ≡ Some net
+  based n net at = net-Adds (base form) d n net shown.adds at
+
+  -- and in the module, at its place
+  placed_net : (n : ℕ) (net : FlatNet) → slice_get d.nets n ≡ Some net → slice_get (nets_of m) (fin.place n) ≡ Some net
+  placed_net n net at = fin.nets n (slice_get_within d.nets n net at) ∙ at
+
+  -- a net's value is found by its name
+  named : (v : List ℕ) → length v ≡ length (nets_of m) → (n : ℕ) (net : FlatNet) → slice_get d.nets n ≡ Some net → value_named (nets_of m) v net.name ≡ slice_index v (fin.place n)
+  named v long n net at = found (nets_of m) kept.wired.distinct.1.1 v long (fin.place n) net (placed_net n net at)
+
+  -- a draft's net as a valuation gives it
+  abbrev read : List ℕ → ℕ → ℕ
+  read v n = slice_index v (fin.place n)
+
+  solved : (v : List ℕ) → Solves flat v → Equations form nets (read v) × (read v shown.write_enable ≡ read v nets.enable.number) × (read v shown.write_value ≡ read v nets.sum.number)
+  solved v s = shown.equations (read v) (record { fits = (fin.solutions v s).fits; holds = (fin.solutions v s).holds })
+
+  -- the value of a declared net fits
+  net_fits : (v : List ℕ) → Solves flat v → (w : Wire) → IsNet d.nets w → read v w.number < 2 ^ w.width
+  net_fits v s w h = (fin.solutions v s).fits w.number w.width h.declared
+
+  -- the registers as a valuation gives them, before the edge and after it
+  before_edge : (v : List ℕ) → map (λ (x : Next). slice_index v x.register.number) m.nexts ≡ read v 0 ∷ read v 1 ∷ read v 2 ∷ read v 3 ∷ []
+  before_edge v = ap (map (λ (x : Next). slice_index v x.register.number)) fin.nexts
+
+  after_edge : (v : List ℕ) → map (λ (x : Next). slice_index v x.from.number) m.nexts ≡ read v nets.next_address.number ∷ read v nets.written.number ∷ read v nets.one.number ∷ read v 5 ∷ []
+  after_edge v = ap (map (λ (x : Next). slice_index v x.from.number)) fin.nexts
+
+  -- the row that a solution shows
+  shows : (v : List ℕ) → Solves flat v → (s : State) → HoldsState (read v 0 ∷ read v 1 ∷ read v 2 ∷ read v 3 ∷ []) s
+      → (shown_row (outside_of form) flat v ≡ record { stall = false; kill = false; writes = writes_of (fire form s.register s.stage) })
+      × ((if read v nets.enable.number == 1 then Some (read v nets.sum.number) else None) ≡ fire form s.register s.stage)
+  shows v solves s h =
+      let e = solved v solves in
+      let stall : value_named (nets_of m) v (codes "stall") ≡ 0 = named v solves.long 7 _ (based 7 _ refl) ∙ (e.0).stall in
+      let kill : value_named (nets_of m) v (codes "kill") ≡ 0 = named v solves.long 8 _ (based 8 _ refl) ∙ (e.0).kill in
+      let enable : value_named (nets_of m) v (codes "w_R_e") ≡ read v nets.enable.number = named v solves.long shown.write_enable _ shown.enable_there ∙ e.1 in
+      let value : value_named (nets_of m) v (codes "w_R_v") ≡ read v nets.sum.number = named v solves.long shown.write_value _ shown.value_there ∙ e.2 in
+      let fired : (if read v nets.enable.number == 1 then Some (read v nets.sum.number) else None) ≡ fire form s.register s.stage =
+      fires form (read v 2) (read v 3) s.register (read v nets.enable.number) (read v nets.sum.number) s.stage h.2 (e.0).enable ((e.0).sum ∙ ap (sum_of form) h.1) in
+      (
+        (λ i. record { stall = stall i == 1; kill = kill i == 1; writes = (if enable i == 1 then record { group = 0; index = None; value = value i } ∷ [] else []) ++ [] })
+        ∙ (λ i. record { stall = false; kill = false; writes = (group_shown (read v nets.enable.number == 1) (read v nets.sum.number) ∙ ap writes_of fired) i }),
+        fired,
+      )
+
+  -- after the reset edge the registers hold the machine's start
+  reset_is : (image : Image) → (reset_state flat image).registers ≡ 0 ∷ form.start ∷ 0 ∷ 0 ∷ []
+  reset_is image =
+      ap (map (λ (x : Next). reset_at (nets_of m) x.register.number)) fin.nexts
+      ∙ (λ i. reset_value (placed_net 0 _ (based 0 _ refl) i) ∷ reset_value (placed_net 1 _ (based 1 _ refl) i) ∷ reset_value (placed_net 2 _ (based 2 _ refl) i) ∷ reset_value (placed_net 3 _ (based 3 _ refl) i) ∷ [])
+
+  -- one cycle goes from what the machine holds to what it holds after a cycle, and shows the row
+  steps : (image : Image) (trace : List TraceLine) (j : ℕ) (old new : NetState) (v : List ℕ) (s : State) → Cycle (outside_of form) flat image.code (line_at trace [] j) old v new → HoldsState old.registers s
+      → HoldsState new.registers (cycle form image s) × (shown_row (outside_of form) flat v ≡ record { stall = false; kill = false; writes = writes_of (fire form s.register s.stage) })
+  steps image trace j old new v s c h =
+      let e = (solved v c.solves).0 in
+      let held : HoldsState (read v 0 ∷ read v 1 ∷ read v 2 ∷ read v 3 ∷ []) s = subst (λ r. HoldsState r s) (sym c.registers ∙ before_edge v) h in
+      let row = shows v c.solves s held in
+      let address : value_named (nets_of m) v (codes "iaddr") ≡ s.pc = named v (c.solves).long 4 _ (based 4 _ refl) ∙ e.iaddr ∙ held.0 in
+      let fetched : read v 5 ≡ slice_index image.code s.pc = sym (named v (c.solves).long 5 _ (based 5 _ refl)) ∙ c.fetch ∙ ap (slice_index image.code) address in
+      (
+        subst (λ r. HoldsState r (cycle form image s)) (sym (c.after ∙ after_edge v)) (
+          e.next_address ∙ ap (λ n. (n + 1) % 2 ^ form.address) held.0,
+          e.written ∙ written_by (read v nets.enable.number == 1) (read v nets.sum.number) (read v 1) ∙ (λ i. written (held.1 i) (row.1 i)),
+          (e.one, fetched),
+        ),
+        row.0,
+      )
+
+  -- in a run the registers hold the machine's states
+  holds : (image : Image) (trace : List TraceLine) (c : ℕ) (states : ℕ → NetState) (valuations : ℕ → List ℕ) → Runs (outside_of form) flat image trace c states valuations
+      → (j : ℕ) → j ≤ c → HoldsState (states j).registers (over form image trace j)
+  holds image trace c states valuations runs zero le = subst (λ r. HoldsState r (start form)) (sym (ap (λ (x : NetState). x.registers) runs.starts ∙ reset_is image)) (refl, refl, refl)
+  holds image trace c states valuations runs (suc j) le =
+      let before = holds image trace c states valuations runs j (omega arith) in
+      let next : j + 1 ≡ suc j = omega arith in
+      subst (λ n. HoldsState (states n).registers (over form image trace (suc j))) next (steps image trace j (states j) (states (j + 1)) (valuations j) (over form image trace j) (runs.goes j (omega arith)) before).0
+
+  -- there is a number for each register
+  long : (image : Image) (trace : List TraceLine) (c : ℕ) (states : ℕ → NetState) (valuations : ℕ → List ℕ) → Runs (outside_of form) flat image trace c states valuations
+      → (j : ℕ) → j ≤ c → length (states j).registers ≡ length m.nexts
+  long image trace c states valuations runs zero le = ap (λ (x : NetState). length x.registers) runs.starts ∙ simp length-map
+  long image trace c states valuations runs (suc j) le =
+      let next : j + 1 ≡ suc j = omega arith in
+      subst (λ n. length (states n).registers ≡ length m.nexts) next (ap length (runs.goes j (omega arith)).after ∙ simp length-map)
+
+  -- a register is found by its name
+  register_at : (registers : List ℕ) → length registers ≡ length m.nexts → (k : ℕ) (x : Next) (net : FlatNet) → slice_get (four_nexts form nets) k ≡ Some x → slice_get (base_nets form) x.register.number ≡ Some net
+      → register_named flat registers net.name ≡ slice_index registers k
+  register_at registers count k x net at there =
+      let stands : slice_get m.nexts k ≡ Some (next_placed fin.place x) = ap (λ (l : List Next). slice_get l k) fin.nexts ∙ slice_get-map (next_placed fin.place) (four_nexts form nets) k ∙ ap (option_map (next_placed fin.place)) at in
+      let its_name : name_at (nets_of m) (fin.place x.register.number) ≡ net.name = ap name_of (placed_net x.register.number net (based x.register.number net there)) in
+      ap (register_named flat registers) (sym its_name) ∙ registers_found flat kept.wired registers count k (next_placed fin.place x) stands
+
+  keeps : (registers : List ℕ) → length registers ≡ length m.nexts → (s : State) → HoldsState registers s → (mems : List (List ℕ)) → Keeps flat (record { registers = registers; mems = mems }) s
+  keeps registers count s h mems = record {
+    pc = register_at registers count 0 _ _ refl refl ∙ h.0;
+    register = register_at registers count 1 _ _ refl refl ∙ h.1;
+    stage = subst (λ n. HoldsFlight n (register_named flat registers (codes "x_1")) s.stage) (sym (register_at registers count 2 _ _ refl refl)) (subst (λ n. HoldsFlight (slice_index registers 2) n s.stage) (sym (register_at registers count 3 _ _ refl refl)) h.2);
+  }
+
+  pub designed : IsDesignModule form m
+  designed = ?

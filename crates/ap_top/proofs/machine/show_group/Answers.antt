@@ -1,0 +1,51 @@
+use Rattle.std.proofs.Common.{◌≡◌, ◌≢◌, ◌∙◌, ◌++◌, ◌∷◌, [], List, ℕ, refl, ap}
+use Rattle.std.specs.Prelude.{codes}
+use Rattle.ap_net.specs.declared.net.Port.{Port}
+use Rattle.ap_net.specs.declared.net.FlatNet.{FlatNet}
+use Rattle.ap_net.specs.Names.{IsNew}
+use Rattle.ap_net.specs.Wiring.{taken_names}
+use Rattle.ap_net.specs.Modules.{ports_among}
+use Rattle.ap_net.specs.Outside.{output}
+use Rattle.ap_net.proofs.Laws.{Adds-trans, Closes-trans, IsNet-Adds, IsNew-made, IsNew-is_new, IsNotNumbered-other, net-Adds, ports_among-shown}
+use Rattle.ap_top.specs.declared.form.Form.{Form}
+use Rattle.ap_top.specs.Base.{base_nets}
+use Rattle.ap_top.proofs.machine.show_group.Goals as goal
+
+-- the names of the group are new in the base
+new_in_base : (form : Form) → IsNew (codes "w_R_e") (taken_names (base_nets form)) × IsNew (codes "w_R_v") (taken_names (base_nets form))
+new_in_base form = (IsNew-is_new (codes "w_R_e") (taken_names (base_nets form)) refl, IsNew-is_new (codes "w_R_v") (taken_names (base_nets form)) refl)
+
+apart : codes "w_R_e" ≢ codes "w_R_v"
+apart = (IsNew-is_new (codes "w_R_v") (codes "w_R_e" ∷ []) refl).0
+
+pub show-requires-clause-name : goal.show-requires-clause-name
+show-requires-clause-name c = c.requires.circuit.makes.names (codes "w_R_e") (IsNotNumbered-other (codes "w_R_e") refl) (new_in_base c.args.form).0
+
+pub show-requires-2-clause-name : goal.show-requires-2-clause-name
+show-requires-2-clause-name c = rw c.in_ok-show.ensures.nets (IsNew-made _ _ (codes "w_R_v") apart (c.requires.circuit.makes.names (codes "w_R_v") (IsNotNumbered-other (codes "w_R_v") refl) (new_in_base c.args.form).1))
+
+pub show-requires-2-clause-fits : goal.show-requires-2-clause-fits
+show-requires-2-clause-fits c = (IsNet-Adds _ _ _ c.in_ok-show.ensures.adds c.requires.circuit.sum.0, c.requires.circuit.sum.1)
+
+pub returns-clause-shown : goal.returns-clause-shown
+returns-clause-shown c =
+    let circuit = c.requires.circuit in
+    let adds = Adds-trans _ _ _ c.in_ok-show.ensures.adds c.in_ok-show-2.ensures.adds in
+    record {
+      adds = Adds-trans _ _ _ circuit.makes.adds adds;
+      closes = Closes-trans _ _ _ circuit.makes.closes (Closes-trans _ _ _ c.in_ok-show.ensures.closes c.in_ok-show-2.ensures.closes);
+      next_address = (IsNet-Adds _ _ _ adds circuit.next_address.0, circuit.next_address.1);
+      written = (IsNet-Adds _ _ _ adds circuit.written.0, circuit.written.1);
+      one = (IsNet-Adds _ _ _ adds circuit.one.0, circuit.one.1);
+      ports = ap ports_among c.in_ok-show-2.ensures.nets ∙ ports_among-shown (c.show.new.self).nets (codes "w_R_v") c.args.form.width
+          ∙ ap (λ (ports : List Port). ports ++ output (codes "w_R_v") c.args.form.width ∷ []) (ap ports_among c.in_ok-show.ensures.nets ∙ ports_among-shown ((c.args.circuit.now).out).nets (codes "w_R_e") 1
+          ∙ ap (λ (ports : List Port). ports ++ output (codes "w_R_e") 1 ∷ []) circuit.makes.ports);
+      write_enable = (c.in_ok-show.field-0).number;
+      write_value = (c.in_ok-show-2.field-0).number;
+      enable_there = net-Adds _ _ _ _ c.in_ok-show-2.ensures.adds c.in_ok-show.ensures.there;
+      value_there = c.in_ok-show-2.ensures.there;
+      equations = λ read s.
+          let value = c.in_ok-show-2.ensures.value read s in
+          let enable = c.in_ok-show.ensures.value read value.0 in
+          (circuit.equations read enable.0, enable.1, value.1);
+    }
