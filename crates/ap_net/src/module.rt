@@ -1,5 +1,5 @@
 ghost use Rattle.std.specs.Prelude.{◌≡◌, ◌<◌, ◌∷◌, [], length, codes, IfOk, OnOk};
-ghost use Rattle.ap_net.specs.Modules.{nets_of, nets_among, name_at, reset_at, IsModule};
+ghost use Rattle.ap_net.specs.Modules.{IsNetlist, nets_of, nets_among, name_at, reset_at, IsModule};
 
 use crate::NoMemory;
 use crate::name::NetName;
@@ -176,6 +176,13 @@ impl Netlist {
         let mut modules = Vec::new(alloc);
         modules.push(top)?;
         Ok(Netlist { modules })
+    }
+
+    /// What every netlist keeps, as a fact that callers can use.
+    pub fn rules(&self)
+        ensures { IsNetlist self.now }
+    {
+        let _ = &self.modules;
     }
 
     /// The modules in the order of the text.

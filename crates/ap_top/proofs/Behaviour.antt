@@ -141,5 +141,104 @@ module _ (form : Form) (ok : IsForm form) (d : Draft) (nets : Nets) (shown : IsS
     stage = subst (λ n. HoldsFlight n (register_named flat registers (codes "x_1")) s.stage) (sym (register_at registers count 2 _ _ refl refl)) (subst (λ n. HoldsFlight (slice_index registers 2) n s.stage) (sym (register_at registers count 3 _ _ refl refl)) h.2);
   }
 
+  rank_on : RanksOn (base form) d base_rank
+  rank_on = shown.adds.order base_rank (base_ranked form)
+
+  -- what the outside and the registers give in a cycle
+  sources : (code : List ℕ) (wait : Bool) (r : List ℕ) → Each (λ word. word < 2 ^ form.word) code → FourFit form r → Given (nets_of m)
+  sources code wait r fits f = record {
+    number = λ n rd. given code wait r (fin.back n) (rd (fin.place 4));
+    fits = λ n net rd at is.
+        let inside : n < length (nets_of m) = slice_get_within (nets_of m) n net at in
+        let old : slice_get d.nets (fin.back n) ≡ Some net = sym (fin.nets (fin.back n) (fin.within n inside)) ∙ ap (slice_get (nets_of m)) (fin.covers n inside) ∙ at in
+        given_fits form code wait r fits f (fin.back n) (rd (fin.place 4)) net (λ x there. same (sym (based (fin.back n) x there) ∙ old));
+  }
+
+  sources_ordered : (code : List ℕ) (wait : Bool) (r : List ℕ) (fits : Each (λ word. word < 2 ^ form.word) code) (f : FourFit form r) → IsOrderedWith flat (sources code wait r fits f)
+  unfolding sources
+  sources_ordered code wait r fits f = record {
+    rank = λ n. rank_on.after (fin.back n);
+    ranked = fin.orders rank_on.after rank_on.ranked;
+    looks = λ n net p q at is agree. given_looks code wait r (fin.back n) (p (fin.place 4)) (q (fin.place 4)) (λ five.
+        let inside : 4 < length d.nets = slice_get_within d.nets 4 _ (based 4 _ refl) in
+        let low : rank_on.after (fin.back (fin.place 4)) ≡ 1 = ap rank_on.after (fin.returns 4 inside) ∙ rank_on.agrees 4 (lit< tt) in
+        let high : rank_on.after (fin.back n) ≡ 2 = ap rank_on.after five ∙ rank_on.agrees 5 (lit< tt) in
+        agree (fin.place 4) (slice_get_within (nets_of m) (fin.place 4) _ (placed_net 4 _ (based 4 _ refl))) (omega arith));
+  }
+
+  -- one more cycle can be made
+  one_more : (image : Image) (trace : List TraceLine) (j : ℕ) (old : NetState) → ImageFits image (outside_of form) → FourFit form old.registers
+      → (v : List ℕ) × (new : NetState) × Cycle (outside_of form) flat image.code (line_at trace [] j) old v new × FourFit form new.registers
+  unfolding sources
+  one_more image trace j old fits f =
+      let wait : Bool = (line_at trace [] j).wait in
+      let r : List ℕ = old.registers in
+      let g : Given (nets_of m) = sources image.code wait r (fits.code).each f in
+      let solution = solvable flat kept.wired g (sources_ordered image.code wait r (fits.code).each f) in
+      let v : List ℕ = solution.0 in
+      let solves : Solves flat v = solution.1 in
+      let e : Equations form nets (read v) = (solved v solves).0 in
+      let takes : (k : ℕ) (net : FlatNet) → slice_get (base_nets form) k ≡ Some net → IsSource net.role → read v k ≡ given image.code wait r k (read v 4) = λ k net at is.
+      solution.2 (fin.place k) net (placed_net k net (based k net at)) is ∙ ap (λ n. given image.code wait r n (read v 4)) (fin.returns k (slice_get_within d.nets k net (based k net at))) in
+      let registers : List ℕ = map (λ (x : Next). slice_index v x.from.number) m.nexts in
+      let word : slice_get (widths_of d.nets) 5 ≡ Some form.word = slice_get-map (λ (x : FlatNet). x.width) d.nets 5 ∙ ap (option_map (λ (x : FlatNet). x.width)) (based 5 _ refl) in (
+        v,
+        record { registers = registers; mems = [] },
+        record {
+          solves = solves;
+          registers = before_edge v ∙ (λ i. takes 0 _ refl tt i ∷ takes 1 _ refl tt i ∷ takes 2 _ refl tt i ∷ takes 3 _ refl tt i ∷ []) ∙ sym f.four;
+          fetch = named v solves.long 5 _ (based 5 _ refl) ∙ takes 5 _ refl tt ∙ ap (slice_index image.code) (sym (named v solves.long 4 _ (based 4 _ refl)));
+          wait = named v solves.long 6 _ (based 6 _ refl) ∙ takes 6 _ refl tt;
+          inputs = tt;
+          reads = tt;
+          after = refl;
+          writes = refl;
+        },
+        subst (FourFit form) (sym (after_edge v)) (record {
+          four = refl;
+          pc = subst (λ w. read v nets.next_address.number < 2 ^ w) shown.next_address.1 (net_fits v solves nets.next_address shown.next_address.0);
+          register = subst (λ w. read v nets.written.number < 2 ^ w) shown.written.1 (net_fits v solves nets.written shown.written.0);
+          valid = subst (λ w. read v nets.one.number < 2 ^ w) shown.one.1 (net_fits v solves nets.one shown.one.0);
+          word = (fin.solutions v solves).fits 5 form.word word;
+        }),
+      )
+
+  -- the states of a run, one after another
+  made : (image : Image) (trace : List TraceLine) → ImageFits image (outside_of form) → ℕ → (state : NetState) × FourFit form state.registers
+  made image trace fits zero = (
+    reset_state flat image,
+    subst (FourFit form) (sym (reset_is image)) (record { four = refl; pc = pow_pos form.address; register = (ok.values).start; valid = lit< tt; word = pow_pos form.word }),
+  )
+  made image trace fits (suc j) =
+      let before = made image trace fits j in
+      let more = one_more image trace j before.0 fits before.1 in
+      (more.1, more.3)
+
+  exists : (image : Image) (trace : List TraceLine) (c : ℕ) → ImageFits image (outside_of form)
+      → (states : ℕ → NetState) × (valuations : ℕ → List ℕ) × Runs (outside_of form) flat image trace c states valuations
+  unfolding made
+  exists image trace c fits =
+      let states : ℕ → NetState = λ j. (made image trace fits j).0 in
+      let valuations : ℕ → List ℕ = λ j. (one_more image trace j (made image trace fits j).0 fits (made image trace fits j).1).0 in (
+        states,
+        valuations,
+        record {
+          starts = refl;
+          goes = λ j lt.
+              let next : suc j ≡ j + 1 = omega arith in
+              subst (λ n. Cycle (outside_of form) flat image.code (line_at trace [] j) (states j) (valuations j) (states n)) next (one_more image trace j (made image trace fits j).0 fits (made image trace fits j).1).2;
+        },
+      )
+
   pub designed : IsDesignModule form m
-  designed = ?
+  designed = record {
+    name = fin.name ∙ (shown.adds.extends).name;
+    design = record {
+      ports = fin.ports ∙ shown.ports;
+      behaves = record {
+        exists = λ image trace c fits trace_fits. exists image trace c fits;
+        rows = λ image trace c states valuations runs j lt. (steps image trace j (states j) (states (j + 1)) (valuations j) (over form image trace j) (runs.goes j lt) (holds image trace c states valuations runs j (omega arith))).1;
+        keeps = λ image trace c states valuations runs j le. keeps (states j).registers (long image trace c states valuations runs j le) (over form image trace j) (holds image trace c states valuations runs j le) (states j).mems;
+      };
+    };
+  }

@@ -4,6 +4,9 @@ ghost use Rattle.ap_top.specs.DesignText.{IsDesignText};
 
 use crate::NoMemory;
 use crate::form::Form;
+use crate::machine::two_stage;
+use ap_net::module::Netlist;
+use ap_net::write::write;
 use std::alloc::Global;
 
 /// The processor of a form, in Verilog.
@@ -11,9 +14,10 @@ pub fn design_text(alloc: Global, form: &Form) -> Result<Vec<u8>, NoMemory>
     requires { IsForm form.now }
     ensures { IfOk result (λ text. IsDesignText form.now text.items) }
 {
-    let width = form.width;
-    match format!(in alloc; "module top; // {width}\n") {
-        Ok(text) => Ok(text.into_bytes()),
-        Err(_) => Err(NoMemory),
-    }
+    let top = two_stage(alloc, *form)?;
+    let netlist = Netlist::of_top(alloc, top)?;
+    netlist.rules();
+    let mut text = Vec::new(alloc);
+    write(alloc, &netlist, &mut text)?;
+    Ok(text)
 }

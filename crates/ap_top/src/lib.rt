@@ -5,7 +5,7 @@ pub mod command;
 pub mod design;
 pub mod form;
 mod generate;
-mod machine;
+pub mod machine;
 mod numbers;
 mod output;
 pub mod pattern;
@@ -16,3 +16,9 @@ pub mod serve;
 /// Memory ran out.
 #[derive(Clone, Copy, Debug, PartialEq, Eq)]
 pub struct NoMemory;
+
+impl From<ap_net::NoMemory> for NoMemory {
+    fn from(_: ap_net::NoMemory) -> NoMemory {
+        NoMemory
+    }
+}

@@ -207,3 +207,13 @@ fn clocked(form: Form, circuit: Circuit) -> Result<Module, NoMemory>
     top.rules();
     Ok(top)
 }
+
+/// The processor of a form as one module: a pc, the register, and one stage that holds a word or nothing.
+pub fn two_stage(alloc: Global, form: Form) -> Result<Module, NoMemory>
+    requires { IsForm form }
+    ensures { IfOk result (IsDesignModule form) }
+{
+    let mut circuit = make_circuit(alloc, form)?;
+    show_group(form, &mut circuit)?;
+    clocked(form, circuit)
+}
