@@ -1,5 +1,5 @@
 -- How files change by the steps of a call, one after another.
-use Rattle.std.proofs.Common.{◌≡◌, ℕ, List, [], ◌++◌, length, take, Bool, true, false, cond, Some, None, Option, Result, Ok, Err, refl, sym, ap, subst, inl, inr, ⊎_elim, ◌∙◌, arith}
+use Rattle.std.proofs.Common.{◌≡◌, ℕ, List, [], ◌++◌, length, take, Bool, true, false, cond, Some, None, Option, Result, Ok, Err, refl, sym, ap, subst, inr, ⊎_elim, ◌∙◌, arith}
 use Rattle.std.proofs.lemmas.List.{take_all}
 use Rattle.std.specs.Prelude.{unwrap_or, OnOk, OnErr}
 use Rattle.std.specs.Ordering.{nat_cmp, eq_by_cmp}
@@ -8,7 +8,7 @@ use Rattle.std.specs.FinMap.{get, insert, get-insert, same_map, slice_cmp-IsAnti
 use Rattle.std.specs.Bool.{Decides}
 use Rattle.std.proofs.lemmas.Map.Text.{is_eq-slice_cmp}
 use Rattle.std.proofs.lemmas.Slice.Eq.{bytes_eq-Decides}
-use Rattle.ap_desk.specs.Files.{Files, content, Goes, Becomes, BecomesEmptyOrStays, Gains, GainsFront, Stands}
+use Rattle.ap_desk.specs.Files.{Files, content, Goes, Becomes, Gains, GainsFront, Stands}
 use Rattle.ap_top.specs.Outputs.{BecomesFront}
 
 tied : List ℕ → List ℕ → Bool

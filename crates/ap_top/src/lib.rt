@@ -22,3 +22,5 @@ impl From<ap_net::NoMemory> for NoMemory {
         NoMemory
     }
 }
+#[cfg(test)]
+mod tests;
