@@ -3,12 +3,12 @@
 
 use ap_desk::system::FileDesk;
 use ap_top::serve::serve;
-use std::alloc::{AllocError, Global};
 use std::process::ExitCode;
+use std::rt::Env;
 use std::{env, io};
 
 /// The words after the program's name.
-fn words(rt: &HostRuntime) -> io::Result<Vec<String>> {
+fn words(rt: &(impl Env + AllocGlobal)) -> io::Result<Vec<String>> {
     let mut words = Vec::new(rt.alloc());
     for word in env::args(rt)?.skip(1) {
         words.push(word)?;
