@@ -12,3 +12,4 @@ pub mod Outputs
 pub mod Endings
 pub mod Troubles
 pub mod Generate
+pub mod Example

@@ -3,6 +3,7 @@
 
 pub mod command;
 pub mod design;
+pub mod example;
 pub mod form;
 mod generate;
 pub mod machine;
