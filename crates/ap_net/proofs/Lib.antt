@@ -13,3 +13,4 @@ pub mod Fits
 pub mod Unique
 pub mod Found
 pub mod Laws
+pub mod Tested

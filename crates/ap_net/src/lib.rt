@@ -12,3 +12,6 @@ pub mod solve;
 pub mod write;
 
 pub use memory::NoMemory;
+
+#[cfg(test)]
+mod tests;
