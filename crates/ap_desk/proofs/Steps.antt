@@ -6,7 +6,7 @@ use Rattle.std.proofs.lemmas.Bool.{cases_lt}
 use Rattle.std.specs.Prelude.{unwrap_or, ◌⊎◌}
 use Rattle.std.specs.Cmp.Lexicographic.{nat_list_cmp_total}
 use Rattle.std.specs.FinMap.{get, insert, get-insert, same_map, slice_cmp-IsAntisymmetric, nat_cmp-IsAntisymmetric}
-use Rattle.ap_desk.specs.Files.{Files, content, Goes, Gains, GainsFront, Stands}
+use Rattle.ap_desk.specs.Files.{Files, content, Goes, Becomes, BecomesFrontOrStays, Gains, GainsFront, Stands}
 use Rattle.ap_desk.proofs.Maps.{tied, tied_decides}
 
 same : (a b : Files) → ((q : List ℕ) → get a q ≡ get b q) → a ≡ b
@@ -108,3 +108,33 @@ gains_all None None name text n all there p = tt
 gains_all None (Some b) name text n all there p = absurd p
 gains_all (Some a) None name text n all there p = absurd p
 gains_all (Some a) (Some b) name text n all there p = done a b name text n all there p
+
+-- what was set is there
+pub becomes_stands : (a b : Option Files) (name bytes : List ℕ) → Goes (Becomes name bytes) a b → Stands name b
+becomes_stands None None name bytes p = tt
+becomes_stands None (Some b) name bytes p = absurd p
+becomes_stands (Some a) None name bytes p = absurd p
+becomes_stands (Some a) (Some b) name bytes p = rw p (get_set a name bytes ∙ ap Some (sym (content_set a name bytes)))
+
+-- an empty file that gains a text holds that text
+becomes_gains : (a b c : Files) (name text : List ℕ) → Becomes name [] a b → Gains name text b c → Becomes name text a c
+becomes_gains a b c name text p q = q ∙ rw p (rw content_set (set_twice a name [] text))
+
+pub becomes_all : (a b c : Option Files) (name text : List ℕ) → Goes (Becomes name []) a b → Goes (Gains name text) b c → Goes (Becomes name text) a c
+becomes_all None None None name text p q = tt
+becomes_all None None (Some c) name text p q = absurd q
+becomes_all None (Some b) c name text p q = absurd p
+becomes_all (Some a) None c name text p q = absurd p
+becomes_all (Some a) (Some b) None name text p q = absurd q
+becomes_all (Some a) (Some b) (Some c) name text p q = becomes_gains a b c name text p q
+
+pub becomes_front : (a b c : Option Files) (name text : List ℕ) → Goes (Becomes name []) a b → Goes (GainsFront name text) b c → Goes (BecomesFrontOrStays name text) a c
+becomes_front None None None name text p q = tt
+becomes_front None None (Some c) name text p q = absurd q
+becomes_front None (Some b) c name text p q = absurd p
+becomes_front (Some a) None c name text p q = absurd p
+becomes_front (Some a) (Some b) None name text p q = absurd q
+becomes_front (Some a) (Some b) (Some c) name text p q = ⊎_elim
+    (λ stays. inr (0, stays ∙ p))
+    (λ more. inr (more.0, becomes_gains a b c name (take more.0 text) p more.1))
+    q

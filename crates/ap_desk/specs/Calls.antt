@@ -1,7 +1,7 @@
 -- Calls of one kind, counted from 0, some of which are to fail; and what the desks in memory hold.
 use Rattle.std.specs.Prelude.{ℕ, ◌+◌, ◌-◌, ◌^◌, min, List, [], ◌∷◌, ◌++◌, Contains, Result, Ok, Err, refl}
 use Rattle.std.specs.Coded.{Coded, code_by, coded×, coded_ℕ, coded_list}
-use Rattle.std.specs.FinMap.{code}
+use Rattle.std.specs.FinMap.{code, empty}
 use Rattle.ap_desk.specs.declared.desk.DeskFault.{DeskFault}
 use Rattle.ap_desk.specs.declared.desk.DeskFault.TheVariants.{Failed, Missing, NoMemory}
 use Rattle.ap_desk.specs.Files.{Files}
@@ -35,6 +35,14 @@ pub record MemState : Type 0 where
   pub appends : CallPlan
   pub faults : ℕ
   pub absent : ℕ
+
+-- no call is to fail, and none was made
+abbrev pub new_plan : CallPlan
+new_plan = record { failing = []; next = 0 }
+
+-- a desk that holds no file and fails no call
+abbrev pub new_state : MemState
+new_state = record { files = empty; reads = new_plan; creates = new_plan; appends = new_plan; faults = 0; absent = 0 }
 
 -- what a desk in memory that never fails holds
 pub record SureState : Type 0 where

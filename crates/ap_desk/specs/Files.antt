@@ -36,6 +36,10 @@ Becomes name bytes old new = new ≡ insert old name bytes
 abbrev pub BecomesEmptyOrStays : List ℕ → Files → Files → Type 0
 BecomesEmptyOrStays name old new = (new ≡ old) ⊎ Becomes name [] old new
 
+-- the file holds a front of these bytes, or nothing was done
+abbrev pub BecomesFrontOrStays : List ℕ → List ℕ → Files → Files → Type 0
+BecomesFrontOrStays name bytes old new = (new ≡ old) ⊎ ((n : ℕ) × Becomes name (take n bytes) old new)
+
 -- the piece stands after what the file held
 abbrev pub Gains : List ℕ → List ℕ → Files → Files → Type 0
 Gains name piece old new = new ≡ insert old name (content old name ++ piece)

@@ -4,7 +4,7 @@ ghost use Rattle.ap_desk.specs.Calls.{IsDue, counted, with_failing};
 use std::alloc::{AllocError, Global};
 use std::marker::Model;
 
-// The calls of one kind, counted from 0: which are to fail, and the number of the next.
+/// The calls of one kind, counted from 0: which are to fail, and the number of the next.
 #[derive(Drop)]
 pub struct Calls {
     failing: Vec<u64>,
@@ -29,7 +29,7 @@ impl Calls {
         }
     }
 
-    // Makes the call of this number fail; after an error nothing has changed.
+    /// Makes the call of this number fail; after an error nothing has changed.
     pub fn fail(&mut self, number: u64) -> Result<(), AllocError>
         ensures ok { OnOk result (self.new ≡ with_failing self.old number) }
         ensures err { OnErr result (self.new ≡ self.old) }
@@ -38,7 +38,7 @@ impl Calls {
         Ok(())
     }
 
-    // Counts a call, and says whether it is to fail.
+    /// Counts a call, and says whether it is to fail.
     pub fn advance(&mut self) -> bool
         ensures fails { IsTrue result ↔ IsDue self.old }
         ensures next { self.new ≡ counted self.old }

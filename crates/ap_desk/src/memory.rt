@@ -2,7 +2,7 @@ ghost use Rattle.std.specs.Prelude.{◌≡◌, ◌≢◌, ◌≤◌, ◌/◌, �
 ghost use Rattle.std.specs.FinMap as map;
 ghost use Rattle.ap_desk.specs.Files.{IsFileName, Goes, Reads, Becomes, BecomesEmptyOrStays, Gains, GainsFront};
 ghost use Rattle.ap_desk.specs.Causes.{HasCause};
-ghost use Rattle.ap_desk.specs.Calls.{IsDue, counted, faults_after, absent_after};
+ghost use Rattle.ap_desk.specs.Calls.{IsDue, new_state, counted, faults_after, absent_after};
 
 use crate::calls::Calls;
 use crate::desk::{Desk, DeskFault};
@@ -47,14 +47,20 @@ pub struct MemDesk {
 }
 
 impl Model for MemDesk {
-    ghost use Rattle.std.specs.Coded.{Coded};
     ghost use Rattle.ap_desk.specs.Calls.{MemState, mem_state_code};
 
     ghost Value = { MemState };
 
     ghost coded = { mem_state_code };
 
-    ghost view = { λ d. record { files = d.table; reads = d.reads; creates = d.creates; appends = d.appends; faults = d.faults; absent = d.absent } };
+    ghost view = { λ d. record {
+      files = d.table;
+      reads = d.reads;
+      creates = d.creates;
+      appends = d.appends;
+      faults = d.faults;
+      absent = d.absent;
+    } };
 }
 
 impl MemDesk {
@@ -62,7 +68,7 @@ impl MemDesk {
 
     /// A desk that holds no file and fails no call. It takes no memory.
     pub fn new(alloc: Global) -> MemDesk
-        ensures { result ≡ record { files = map.empty; reads = record { failing = []; next = 0 }; creates = record { failing = []; next = 0 }; appends = record { failing = []; next = 0 }; faults = 0; absent = 0 } }
+        ensures { result ≡ new_state }
     {
         MemDesk {
             table: FileTable::new(alloc),
@@ -76,7 +82,8 @@ impl MemDesk {
 
     /// Sets the file of this name. After `NoMemory` the desk is as it was.
     pub fn put(&mut self, name: &str, bytes: &[u8]) -> Result<(), NoMemory>
-        ensures ok { OnOk result (self.new ≡ record self.old { files = map.insert self.old.files name.now bytes.now }) }
+        ensures ok { OnOk result (self.new
+            ≡ record self.old { files = map.insert self.old.files name.now bytes.now }) }
         ensures err { OnErr result (self.new ≡ self.old) }
     {
         self.table.put(name, bytes)?;
@@ -132,8 +139,13 @@ impl Desk for MemDesk {
         ensures bound { IfOk result (λ n. n ≤ length into.new) }
         ensures bytes { IfOk result (λ n. Reads self.old.files name.now at n into.new) }
         ensures failed { (result ≡ Err DeskFault.Failed) ↔ IsDue self.old.reads }
-        ensures missing { (result ≡ Err DeskFault.Missing) ↔ (¬ IsDue self.old.reads × (map.get self.old.files name.now ≡ None)) }
-        ensures state { self.new ≡ record self.old { reads = counted self.old.reads; faults = faults_after result self.old.faults; absent = absent_after result self.old.absent } }
+        ensures missing { (result ≡ Err DeskFault.Missing)
+            ↔ (¬ IsDue self.old.reads × (map.get self.old.files name.now ≡ None)) }
+        ensures state { self.new ≡ record self.old {
+          reads = counted self.old.reads;
+          faults = faults_after result self.old.faults;
+          absent = absent_after result self.old.absent;
+        } }
         ensures cause { HasCause self.old.faults self.new.faults self.old.absent self.new.absent result }
     {
         if self.reads.advance() {
@@ -155,7 +167,11 @@ impl Desk for MemDesk {
         ensures err { OnErr result (self.new.files ≡ self.old.files) }
         ensures failed { (result ≡ Err DeskFault.Failed) ↔ IsDue self.old.creates }
         ensures not_missing { result ≢ Err DeskFault.Missing }
-        ensures state { self.new ≡ record self.old { files = self.new.files; creates = counted self.old.creates; faults = faults_after result self.old.faults } }
+        ensures state { self.new ≡ record self.old {
+          files = self.new.files;
+          creates = counted self.old.creates;
+          faults = faults_after result self.old.faults;
+        } }
         ensures cause { HasCause self.old.faults self.new.faults self.old.absent self.new.absent result }
     {
         if self.creates.advance() {
@@ -170,12 +186,17 @@ impl Desk for MemDesk {
     /// piece, rounded down, where the memory for it is had, and else nothing; want of memory keeps nothing.
     fn append(&mut self, name: &str, piece: &[u8]) -> Result<(), DeskFault>
         ensures ok { OnOk result (Gains name.now piece.now self.old.files self.new.files) }
-        ensures half { result ≡ Err DeskFault.Failed → (self.new.files ≡ self.old.files) ⊎ Gains name.now (take (length piece.now / 2) piece.now) self.old.files self.new.files }
+        ensures half { result ≡ Err DeskFault.Failed → (self.new.files ≡ self.old.files)
+            ⊎ Gains name.now (take (length piece.now / 2) piece.now) self.old.files self.new.files }
         ensures no_memory { result ≡ Err DeskFault.NoMemory → self.new.files ≡ self.old.files }
         ensures err { OnErr result (GainsFront name.now piece.now self.old.files self.new.files) }
         ensures failed { (result ≡ Err DeskFault.Failed) ↔ IsDue self.old.appends }
         ensures not_missing { result ≢ Err DeskFault.Missing }
-        ensures state { self.new ≡ record self.old { files = self.new.files; appends = counted self.old.appends; faults = faults_after result self.old.faults } }
+        ensures state { self.new ≡ record self.old {
+          files = self.new.files;
+          appends = counted self.old.appends;
+          faults = faults_after result self.old.faults;
+        } }
         ensures cause { HasCause self.old.faults self.new.faults self.old.absent self.new.absent result }
     {
         if self.appends.advance() {

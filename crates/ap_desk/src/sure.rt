@@ -40,7 +40,8 @@ impl SureDesk {
 
     /// Sets the file of this name. After `NoMemory` the desk is as it was.
     pub fn put(&mut self, name: &str, bytes: &[u8]) -> Result<(), NoMemory>
-        ensures ok { OnOk result (self.new ≡ record self.old { files = map.insert self.old.files name.now bytes.now }) }
+        ensures ok { OnOk result (self.new
+            ≡ record self.old { files = map.insert self.old.files name.now bytes.now }) }
         ensures err { OnErr result (self.new ≡ self.old) }
     {
         self.table.put(name, bytes)?;
@@ -83,7 +84,8 @@ impl Desk for SureDesk {
 
     /// Gives up for want of memory alone; then the desk is as it was.
     fn create(&mut self, name: &str) -> Result<(), DeskFault>
-        ensures ok { OnOk result (self.new ≡ record self.old { files = map.insert self.old.files name.now [] }) }
+        ensures ok { OnOk result (self.new
+            ≡ record self.old { files = map.insert self.old.files name.now [] }) }
         ensures err { OnErr result (self.new ≡ self.old) }
         ensures only_no_memory { OnErr result (result ≡ Err DeskFault.NoMemory) }
         ensures cause { HasCause 0 0 self.old.absent self.new.absent result }

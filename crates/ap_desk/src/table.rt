@@ -7,7 +7,7 @@ ghost use Rattle.ap_desk.specs.Places.{IsPlace, pairs_of, files_of};
 use std::alloc::{AllocError, Global};
 use std::marker::Model;
 
-// A file in memory.
+/// A file in memory.
 #[derive(Drop)]
 pub struct MemFile {
     name: String,
@@ -106,7 +106,7 @@ fn copy_from(bytes: &[u8], at: u64, into: &mut [u8]) -> usize
     count
 }
 
-// Files in memory, which contracts see as the map from names to bytes.
+/// Files in memory, which contracts see as the map from names to bytes.
 #[derive(Drop)]
 pub struct FileTable {
     alloc: Global,
@@ -136,7 +136,7 @@ impl FileTable {
         }
     }
 
-    // The bytes of the file, where it is there.
+    /// The bytes of the file, where it is there.
     pub fn get(&self, name: &str) -> Option<&[u8]>
         ensures found { IfSome result (λ bytes. map.get self.now name.now ≡ Some bytes.now) }
         ensures none { IsNone result ↔ (map.get self.now name.now ≡ None) }
@@ -144,7 +144,7 @@ impl FileTable {
         bytes_of(&self.files, name)
     }
 
-    // Copies bytes of the file from place `at` on into the front of `into`; None where the file isn't there.
+    /// Copies bytes of the file from place `at` on into the front of `into`; None where the file isn't there.
     pub fn read(&self, name: &str, at: u64, into: &mut [u8]) -> Option<usize>
         ensures bound { IfSome result (λ n. n ≤ length into.new) }
         ensures found { IfSome result (λ n. Reads self.now name.now at n into.new) }
@@ -156,7 +156,7 @@ impl FileTable {
         }
     }
 
-    // Sets the file; after an error all files are as they were.
+    /// Sets the file; after an error all files are as they were.
     pub fn put(&mut self, name: &str, bytes: &[u8]) -> Result<(), AllocError>
         ensures ok { OnOk result (Becomes name.now bytes.now self.old self.new) }
         ensures err { OnErr result (self.new ≡ self.old) }
@@ -166,7 +166,7 @@ impl FileTable {
         Ok(())
     }
 
-    // Adds the piece at the end of the file; after an error all files are as they were.
+    /// Adds the piece at the end of the file; after an error all files are as they were.
     pub fn append(&mut self, name: &str, piece: &[u8]) -> Result<(), AllocError>
         ensures ok { OnOk result (Gains name.now piece.now self.old self.new) }
         ensures err { OnErr result (self.new ≡ self.old) }

@@ -1,6 +1,6 @@
 use crate::desk::{Desk, DeskFault};
 use crate::memory::{DeskCall, MemDesk};
-use crate::pieces::{append_all, read_all};
+use crate::pieces::{append_all, read_all, write_all};
 use crate::sure::SureDesk;
 use crate::system::FileDesk;
 use std::alloc::Global;
@@ -88,16 +88,19 @@ fn sure_desk_never_fails(rt: HostRuntime) -> Result<(), Fail> {
 #[test]
 fn long_texts_go_in_pieces(rt: HostRuntime) -> Result<(), Fail> {
     let text = long_text(rt.alloc())?;
-    assert!(rt; !text.is_empty());
+    assert_eq!(rt; text.len(), 5000);
     let mut desk = MemDesk::new(rt.alloc());
     assert_eq!(rt; append_all(&mut desk, "a", &text), Ok(()));
-    assert_eq!(rt; desk.file("a"), Some(text.as_slice()));
+    assert!(rt; holds(&desk, "a", &text));
+    desk.put("b", b"old")?;
+    assert_eq!(rt; write_all(&mut desk, "b", &text), Ok(()));
+    assert!(rt; holds(&desk, "b", &text));
     for (limit, length) in [(0, 4096), (4095, 4096), (4096, 5000), (5000, 5000)] {
         let bytes = read_all(rt.alloc(), &mut desk, "a", limit)?;
         assert_eq!(rt; bytes.len(), length, "at {limit}");
         assert_eq!(rt; Some(bytes.as_slice()), text.get(..length), "at {limit}");
     }
-    desk.fail(DeskCall::Append, 3)?;
+    desk.fail(DeskCall::Append, 5)?;
     assert_eq!(rt; append_all(&mut desk, "-", &text), Err(DeskFault::Failed));
     assert_eq!(rt; desk.file("-"), text.get(..4096 + 452));
     assert!(rt;
@@ -132,6 +135,7 @@ fn real_files(rt: HostRuntime) -> Result<(), Fail> {
     assert_eq!(rt; desk.read(name, 4999, &mut into), Ok(1));
     assert_eq!(rt; into[0], text[4999]);
     assert_eq!(rt; desk.create(&inside), Err(DeskFault::Failed));
+    assert_eq!(rt; desk.append("-", b"a line of the desk\n"), Ok(()));
     fs::remove_file(&rt, name)?;
     assert_eq!(rt; (desk.fault_count(), desk.absent_count()), (1, 1));
     Ok(())
