@@ -6,7 +6,6 @@ pub mod design;
 pub mod form;
 mod generate;
 mod numbers;
-mod output;
 pub mod pattern;
 mod printing;
 pub mod refusal;

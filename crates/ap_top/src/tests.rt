@@ -34,13 +34,21 @@ fn desk_of(alloc: Global, description: &[u8]) -> Result<MemDesk, Fail> {
     Ok(desk)
 }
 
-/// The status of a command, whose words stand between blanks.
-fn status_of<D: Desk>(alloc: Global, line: &str, desk: &mut D) -> Result<u8, AllocError> {
+/// The words of a command, which stand between blanks.
+fn words_of(alloc: Global, line: &str) -> Result<Vec<String>, AllocError> {
     let mut words = Vec::new(alloc);
     for word in line.split(' ') {
         words.push(String::from_str(alloc, word)?)?;
     }
-    Ok(serve(alloc, &words, desk))
+    Ok(words)
+}
+
+/// The status of a command; 255 where there is no memory for its words.
+fn status_of<D: Desk>(alloc: Global, line: &str, desk: &mut D) -> u8 {
+    match words_of(alloc, line) {
+        Ok(words) => serve(alloc, &words, desk),
+        Err(_) => 255,
+    }
 }
 
 /// Whether the desk printed exactly this line, and the older text still stands.
@@ -48,17 +56,27 @@ fn only_printed(desk: &MemDesk, line: &str) -> bool {
     desk.file("-") == Some(line.as_bytes()) && desk.file("v") == Some(b"old".as_slice())
 }
 
+/// What `gen` writes for a description on a desk on which no call fails.
+fn sure_text(alloc: Global, description: &[u8]) -> Result<Option<Vec<u8>>, Fail> {
+    let mut desk = SureDesk::new(alloc);
+    desk.put("d", description)?;
+    if status_of(alloc, "gen d v", &mut desk) != 0 {
+        return Ok(None);
+    }
+    match desk.file("v") {
+        Some(text) => Ok(Some(Vec::from_slice(alloc, text)?)),
+        None => Ok(None),
+    }
+}
+
 #[test]
 fn a_description_gives_a_text(rt: HostRuntime) -> Result<(), Fail> {
-    let text = accumulator().as_bytes();
-    let mut desk = desk_of(rt.alloc(), text)?;
-    assert_eq!(rt; status_of(rt.alloc(), "gen d v", &mut desk)?, 0);
+    let description = accumulator().as_bytes();
+    let text = sure_text(rt.alloc(), description)?.ok_or("no text")?;
+    let mut desk = desk_of(rt.alloc(), description)?;
+    assert_eq!(rt; status_of(rt.alloc(), "gen d v", &mut desk), 0);
     assert_eq!(rt; desk.file("-"), None);
-    let mut sure = SureDesk::new(rt.alloc());
-    sure.put("d", text)?;
-    assert_eq!(rt; status_of(rt.alloc(), "gen d v", &mut sure)?, 0);
-    assert!(rt; sure.file("v").is_some());
-    assert_eq!(rt; sure.file("v"), desk.file("v"));
+    assert_eq!(rt; desk.file("v"), Some(text.as_slice()));
     Ok(())
 }
 
@@ -81,7 +99,7 @@ fn lines_that_are_no_command() -> [&'static str; 10] {
 fn words_that_are_no_command(rt: HostRuntime) -> Result<(), Fail> {
     for line in lines_that_are_no_command() {
         let mut desk = desk_of(rt.alloc(), accumulator().as_bytes())?;
-        assert_eq!(rt; status_of(rt.alloc(), line, &mut desk)?, 1, "at {line}");
+        assert_eq!(rt; status_of(rt.alloc(), line, &mut desk), 1, "at {line}");
         assert!(rt; only_printed(&desk, "usage\n"), "at {line}");
     }
     let mut desk = desk_of(rt.alloc(), b"")?;
@@ -93,7 +111,7 @@ fn words_that_are_no_command(rt: HostRuntime) -> Result<(), Fail> {
 fn a_line_that_cannot_be_printed(rt: HostRuntime) -> Result<(), Fail> {
     let mut desk = desk_of(rt.alloc(), b"")?;
     desk.fail(DeskCall::Append, 0)?;
-    assert_eq!(rt; status_of(rt.alloc(), "gen", &mut desk)?, 6);
+    assert_eq!(rt; status_of(rt.alloc(), "gen", &mut desk), 6);
     assert!(rt; only_printed(&desk, "usadesk fault\n"));
     Ok(())
 }
@@ -101,7 +119,7 @@ fn a_line_that_cannot_be_printed(rt: HostRuntime) -> Result<(), Fail> {
 #[test]
 fn a_file_that_is_not_there(rt: HostRuntime) -> Result<(), Fail> {
     let mut desk = MemDesk::new(rt.alloc());
-    assert_eq!(rt; status_of(rt.alloc(), "gen q v", &mut desk)?, 6);
+    assert_eq!(rt; status_of(rt.alloc(), "gen q v", &mut desk), 6);
     assert_eq!(rt; (desk.fault_count(), desk.absent_count()), (0, 1));
     assert_eq!(rt; desk.file("v"), None);
     assert_eq!(rt; desk.file("-"), Some(b"desk fault\n".as_slice()));
@@ -111,7 +129,7 @@ fn a_file_that_is_not_there(rt: HostRuntime) -> Result<(), Fail> {
 /// Whether the description is refused with this line.
 fn is_refused(alloc: Global, description: &[u8], line: &str) -> Result<bool, Fail> {
     let mut desk = desk_of(alloc, description)?;
-    let status = status_of(alloc, "gen d v", &mut desk)?;
+    let status = status_of(alloc, "gen d v", &mut desk);
     Ok(status == 2 && only_printed(&desk, line))
 }
 
@@ -140,42 +158,42 @@ enum After {
     Other,
 }
 
-fn after_failing(alloc: Global, call: DeskCall, number: u64) -> Result<After, Fail> {
-    let text = accumulator().as_bytes();
-    let mut clean = desk_of(alloc, text)?;
-    let mut desk = desk_of(alloc, text)?;
-    desk.fail(call, number)?;
-    let done = status_of(alloc, "gen d v", &mut clean)?;
-    let status = status_of(alloc, "gen d v", &mut desk)?;
-    let whole = clean.file("v").ok_or("no text")?;
-    let held = desk.file("v").ok_or("no text")?;
-    if desk.fault_count() == 0 {
-        return Ok(if status == done && held == whole {
-            After::Done
-        } else {
-            After::Other
-        });
+fn stand_of(desk: &MemDesk, status: u8, whole: &[u8]) -> After {
+    let held = desk.file("v").unwrap_or(b"");
+    if desk.fault_count() == 0 && status == 0 && held == whole {
+        return After::Done;
     }
-    let line = desk.file("-") == Some(b"desk fault\n".as_slice());
+    let printed = desk.file("-") == Some(b"desk fault\n".as_slice());
     let kept = held == b"old".as_slice() || whole.starts_with(held);
-    Ok(if status == 6 && line && kept {
+    if desk.fault_count() == 1 && status == 6 && printed && kept {
         After::Stopped
     } else {
         After::Other
-    })
+    }
+}
+
+fn after_failing(alloc: Global, call: DeskCall, number: u64, whole: &[u8]) -> Result<After, Fail> {
+    let mut desk = desk_of(alloc, accumulator().as_bytes())?;
+    desk.fail(call, number)?;
+    let status = status_of(alloc, "gen d v", &mut desk);
+    Ok(stand_of(&desk, status, whole))
 }
 
 #[test]
 fn each_call_fails_in_turn(rt: HostRuntime) -> Result<(), Fail> {
+    let whole = sure_text(rt.alloc(), accumulator().as_bytes())?.ok_or("no text")?;
     for call in [DeskCall::Read, DeskCall::Create, DeskCall::Append] {
-        assert_eq!(rt; after_failing(rt.alloc(), call, 0)?, After::Stopped);
+        assert_eq!(rt; after_failing(rt.alloc(), call, 0, &whole)?, After::Stopped);
         for number in 1..8u64 {
-            assert_ne!(rt; after_failing(rt.alloc(), call, number)?, After::Other);
+            assert_ne!(rt;
+                after_failing(rt.alloc(), call, number, &whole)?,
+                After::Other
+            );
         }
-        assert_eq!(rt; after_failing(rt.alloc(), call, 1000)?, After::Done);
+        assert_eq!(rt; after_failing(rt.alloc(), call, 1000, &whole)?, After::Done);
     }
     assert_eq!(rt;
-        after_failing(rt.alloc(), DeskCall::Read, 1)?,
+        after_failing(rt.alloc(), DeskCall::Read, 1, &whole)?,
         After::Stopped
     );
     Ok(())
