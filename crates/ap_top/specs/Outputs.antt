@@ -50,7 +50,3 @@ FromGood step sources targets old new = AreGood old [] sources × step (texts_of
 -- nothing was done, or each output is as it was or holds a front of its text
 abbrev pub IsBegunOn : List Source → List Target → Files → Files → Type 0
 IsBegunOn sources targets old new = (new ≡ old) ⊎ FromGood WritesFronts sources targets old new
-
--- the file holds a front of the text, or nothing was done
-abbrev pub BecomesFront : List ℕ → List ℕ → Files → Files → Type 0
-BecomesFront name text old new = (new ≡ old) ⊎ ((n : ℕ) × (new ≡ insert old name (take n text)))

@@ -7,10 +7,9 @@ ghost use Rattle.ap_top.specs.Troubles.{IsCaused, StopsOn, desk_stop};
 
 use crate::design::design_text;
 use crate::form::{DESCRIPTION_LIMIT, judge};
-use crate::output::write_output;
 use crate::refusal::Stop;
 use ap_desk::desk::Desk;
-use ap_desk::pieces::read_all;
+use ap_desk::pieces::{read_all, write_all};
 use std::alloc::Global;
 
 /// Reads the description, judges it, and writes the processor in Verilog.
@@ -29,6 +28,6 @@ pub(crate) fn generate<D: Desk>(
     let text = read_all(alloc, desk, description, DESCRIPTION_LIMIT)?;
     let form = judge(alloc, &text)?;
     let design = design_text(alloc, &form)?;
-    write_output(verilog, &design, desk)?;
+    write_all(desk, verilog, &design)?;
     Ok(())
 }

@@ -8,7 +8,6 @@ pub mod form;
 mod generate;
 pub mod machine;
 mod numbers;
-mod output;
 pub mod pattern;
 mod printing;
 pub mod refusal;

@@ -7,7 +7,8 @@ use std::alloc::{AllocError, Global};
 use std::test::Fail;
 
 /// The first form with the numbers 4, 8, 8, 3, 1 and 250.
-const ACCUMULATOR: &str = "stages 2
+fn accumulator() -> &'static str {
+    "stages 2
 address 4
 word 8
 transfer 1 0
@@ -22,7 +23,16 @@ instr I F op=1
   1 s = U.add a k
   1 R <- s
 end
-";
+"
+}
+
+/// A desk that holds this description, and an older text where the Verilog goes.
+fn desk_of(alloc: Global, description: &[u8]) -> Result<MemDesk, Fail> {
+    let mut desk = MemDesk::new(alloc);
+    desk.put("d", description)?;
+    desk.put("v", b"old")?;
+    Ok(desk)
+}
 
 /// The words of a command, which stand between blanks.
 fn words_of(alloc: Global, line: &str) -> Result<Vec<String>, AllocError> {
@@ -33,10 +43,160 @@ fn words_of(alloc: Global, line: &str) -> Result<Vec<String>, AllocError> {
     Ok(words)
 }
 
-/// The status of a command on a desk.
-fn status_of<D: Desk>(alloc: Global, line: &str, desk: &mut D) -> Result<u8, AllocError> {
-    let words = words_of(alloc, line)?;
-    Ok(serve(alloc, &words, desk))
+/// The status of a command; 255 where there is no memory for its words.
+fn status_of<D: Desk>(alloc: Global, line: &str, desk: &mut D) -> u8 {
+    match words_of(alloc, line) {
+        Ok(words) => serve(alloc, &words, desk),
+        Err(_) => 255,
+    }
+}
+
+/// Whether the desk printed exactly this line, and the older text still stands.
+fn only_printed(desk: &MemDesk, line: &str) -> bool {
+    desk.file("-") == Some(line.as_bytes()) && desk.file("v") == Some(b"old".as_slice())
+}
+
+/// What `gen` writes for a description on a desk on which no call fails.
+fn sure_text(alloc: Global, description: &[u8]) -> Result<Option<Vec<u8>>, Fail> {
+    let mut desk = SureDesk::new(alloc);
+    desk.put("d", description)?;
+    if status_of(alloc, "gen d v", &mut desk) != 0 {
+        return Ok(None);
+    }
+    match desk.file("v") {
+        Some(text) => Ok(Some(Vec::from_slice(alloc, text)?)),
+        None => Ok(None),
+    }
+}
+
+#[test]
+fn a_description_gives_a_text(rt: HostRuntime) -> Result<(), Fail> {
+    let description = accumulator().as_bytes();
+    let text = sure_text(rt.alloc(), description)?.ok_or("no text")?;
+    let mut desk = desk_of(rt.alloc(), description)?;
+    assert_eq!(rt; status_of(rt.alloc(), "gen d v", &mut desk), 0);
+    assert_eq!(rt; desk.file("-"), None);
+    assert_eq!(rt; desk.file("v"), Some(text.as_slice()));
+    Ok(())
+}
+
+fn lines_that_are_no_command() -> [&'static str; 10] {
+    [
+        "gen d d",
+        "gen d",
+        "gen d v w",
+        "sim d v",
+        "gen d -",
+        "gen - v",
+        "gen d ",
+        "gen",
+        "",
+        "gem d v",
+    ]
+}
+
+#[test]
+fn words_that_are_no_command(rt: HostRuntime) -> Result<(), Fail> {
+    for line in lines_that_are_no_command() {
+        let mut desk = desk_of(rt.alloc(), accumulator().as_bytes())?;
+        assert_eq!(rt; status_of(rt.alloc(), line, &mut desk), 1, "at {line}");
+        assert!(rt; only_printed(&desk, "usage\n"), "at {line}");
+    }
+    let mut desk = desk_of(rt.alloc(), b"")?;
+    assert_eq!(rt; serve(rt.alloc(), &[], &mut desk), 1);
+    Ok(())
+}
+
+#[test]
+fn a_line_that_cannot_be_printed(rt: HostRuntime) -> Result<(), Fail> {
+    let mut desk = desk_of(rt.alloc(), b"")?;
+    desk.fail(DeskCall::Append, 0)?;
+    assert_eq!(rt; status_of(rt.alloc(), "gen", &mut desk), 6);
+    assert!(rt; only_printed(&desk, "usadesk fault\n"));
+    Ok(())
+}
+
+#[test]
+fn a_file_that_is_not_there(rt: HostRuntime) -> Result<(), Fail> {
+    let mut desk = MemDesk::new(rt.alloc());
+    assert_eq!(rt; status_of(rt.alloc(), "gen q v", &mut desk), 6);
+    assert_eq!(rt; (desk.fault_count(), desk.absent_count()), (0, 1));
+    assert_eq!(rt; desk.file("v"), None);
+    assert_eq!(rt; desk.file("-"), Some(b"desk fault\n".as_slice()));
+    Ok(())
+}
+
+/// Whether the description is refused with this line.
+fn is_refused(alloc: Global, description: &[u8], line: &str) -> Result<bool, Fail> {
+    let mut desk = desk_of(alloc, description)?;
+    let status = status_of(alloc, "gen d v", &mut desk);
+    Ok(status == 2 && only_printed(&desk, line))
+}
+
+#[test]
+fn descriptions_with_a_fault(rt: HostRuntime) -> Result<(), Fail> {
+    let not_built = "description: line 0: F0 NotBuilt\n";
+    let stages = accumulator().replace(rt.alloc(), "stages 2", "stages 3")?;
+    assert!(rt; is_refused(rt.alloc(), stages.as_bytes(), not_built)?);
+    let front = accumulator().strip_suffix("end\n").ok_or("no end")?;
+    assert!(rt; is_refused(rt.alloc(), front.as_bytes(), not_built)?);
+    let limit = vec![in rt.alloc(); b'#'; 1_048_576]?;
+    assert!(rt; is_refused(rt.alloc(), &limit, not_built)?);
+    let long = vec![in rt.alloc(); b'#'; 1_048_577]?;
+    assert!(rt; is_refused(rt.alloc(), &long, "description: line 0: F5 TooLong\n")?);
+    Ok(())
+}
+
+/// How a desk stands after a command on which one call failed.
+#[derive(Clone, Copy, Debug, PartialEq, Eq)]
+enum After {
+    /// No call failed, and the command is done.
+    Done,
+    /// The call failed, the answer says so, and the output is as it was or holds a front of its text.
+    Stopped,
+    /// Anything else.
+    Other,
+}
+
+fn stand_of(desk: &MemDesk, status: u8, whole: &[u8]) -> After {
+    let held = desk.file("v").unwrap_or(b"");
+    if desk.fault_count() == 0 && status == 0 && held == whole {
+        return After::Done;
+    }
+    let printed = desk.file("-") == Some(b"desk fault\n".as_slice());
+    let kept = held == b"old".as_slice() || whole.starts_with(held);
+    if desk.fault_count() == 1 && status == 6 && printed && kept {
+        After::Stopped
+    } else {
+        After::Other
+    }
+}
+
+fn after_failing(alloc: Global, call: DeskCall, number: u64, whole: &[u8]) -> Result<After, Fail> {
+    let mut desk = desk_of(alloc, accumulator().as_bytes())?;
+    desk.fail(call, number)?;
+    let status = status_of(alloc, "gen d v", &mut desk);
+    Ok(stand_of(&desk, status, whole))
+}
+
+#[test]
+fn each_call_fails_in_turn(rt: HostRuntime) -> Result<(), Fail> {
+    let whole = sure_text(rt.alloc(), accumulator().as_bytes())?.ok_or("no text")?;
+    for call in [DeskCall::Read, DeskCall::Create, DeskCall::Append] {
+        assert_eq!(rt; after_failing(rt.alloc(), call, 0, &whole)?, After::Stopped);
+        for number in 1..8u64 {
+            assert_ne!(rt;
+                after_failing(rt.alloc(), call, number, &whole)?,
+                After::Other
+            );
+        }
+        assert_eq!(rt; after_failing(rt.alloc(), call, 1000, &whole)?, After::Done);
+    }
+    assert_eq!(rt;
+        after_failing(rt.alloc(), DeskCall::Read, 1, &whole)?,
+        After::Stopped
+    );
+    Ok(())
 }
 
 /// The first form with these spellings of its six numbers.
@@ -56,148 +216,48 @@ fn spelled(alloc: Global, numbers: [&str; 6]) -> Result<String, AllocError> {
     Ok(text)
 }
 
-#[test]
-fn a_description_gives_a_text(rt: HostRuntime) -> Result<(), Fail> {
-    let mut desk = MemDesk::new(rt.alloc());
-    desk.put("d", ACCUMULATOR.as_bytes())?;
-    assert_eq!(rt; status_of(rt.alloc(), "gen d v", &mut desk)?, 0);
-    assert!(rt; desk.file("v").is_some());
-    assert_eq!(rt; desk.file("-"), None);
-    assert_eq!(rt; desk.file("d"), Some(ACCUMULATOR.as_bytes()));
-    let mut sure = SureDesk::new(rt.alloc());
-    sure.put("d", ACCUMULATOR.as_bytes())?;
-    assert_eq!(rt; status_of(rt.alloc(), "gen d v", &mut sure)?, 0);
-    assert_eq!(rt; sure.file("v"), desk.file("v"));
-    Ok(())
-}
-
-#[test]
-fn words_that_are_no_command(rt: HostRuntime) -> Result<(), Fail> {
-    for line in [
-        "gen q q",
-        "gen q",
-        "gen q v w",
-        "sim q v",
-        "gen q -",
-        "gen - v",
-        "gen q ",
-        "gen",
-        "",
-        "gem d v",
-    ] {
-        let mut desk = MemDesk::new(rt.alloc());
-        desk.put("q", ACCUMULATOR.as_bytes())?;
-        assert_eq!(rt; status_of(rt.alloc(), line, &mut desk)?, 1, "at {line}");
-        assert_eq!(rt; desk.file("-"), Some(b"usage\n".as_slice()), "at {line}");
-        assert_eq!(rt; desk.file("v"), None, "at {line}");
-        desk.put("-", b"")?;
-        desk.fail(DeskCall::Append, 1)?;
-        assert_eq!(rt; status_of(rt.alloc(), line, &mut desk)?, 6, "at {line}");
-        assert_eq!(rt;
-            desk.file("-"),
-            Some(b"usadesk fault\n".as_slice()),
-            "at {line}"
-        );
-    }
-    let mut desk = MemDesk::new(rt.alloc());
-    assert_eq!(rt; serve(rt.alloc(), &[], &mut desk), 1);
-    Ok(())
-}
-
-#[test]
-fn a_file_that_is_not_there(rt: HostRuntime) -> Result<(), Fail> {
-    let mut desk = MemDesk::new(rt.alloc());
-    assert_eq!(rt; status_of(rt.alloc(), "gen q v", &mut desk)?, 6);
-    assert_eq!(rt; (desk.fault_count(), desk.absent_count()), (0, 1));
-    assert_eq!(rt; desk.file("v"), None);
-    assert_eq!(rt; desk.file("-"), Some(b"desk fault\n".as_slice()));
-    Ok(())
-}
-
-#[test]
-fn descriptions_with_a_fault(rt: HostRuntime) -> Result<(), Fail> {
-    let three = ACCUMULATOR.replace(rt.alloc(), "stages 2", "stages 3")?;
-    let without_end = ACCUMULATOR.strip_suffix("end\n").ok_or("no end")?;
-    let long = vec![in rt.alloc(); b'#'; 1_048_577]?;
-    let not_built = b"description: line 0: F0 NotBuilt\n".as_slice();
-    let too_long = b"description: line 0: F5 TooLong\n".as_slice();
-    for (text, line) in [
-        (three.as_bytes(), not_built),
-        (without_end.as_bytes(), not_built),
-        (b"".as_slice(), not_built),
-        (long.as_slice(), too_long),
-    ] {
-        let mut desk = MemDesk::new(rt.alloc());
-        desk.put("d", text)?;
-        desk.put("v", b"old")?;
-        assert_eq!(rt; status_of(rt.alloc(), "gen d v", &mut desk)?, 2);
-        assert_eq!(rt; desk.file("-"), Some(line));
-        assert_eq!(rt; desk.file("v"), Some(b"old".as_slice()));
-    }
-    Ok(())
-}
-
-#[test]
-fn each_call_fails_in_turn(rt: HostRuntime) -> Result<(), Fail> {
-    let mut clean = MemDesk::new(rt.alloc());
-    clean.put("d", ACCUMULATOR.as_bytes())?;
-    assert_eq!(rt; status_of(rt.alloc(), "gen d v", &mut clean)?, 0);
-    let whole = clean.file("v").ok_or("no text")?;
-    let mut failures = 0u32;
-    for call in [DeskCall::Read, DeskCall::Create, DeskCall::Append] {
-        for number in 0..12u64 {
-            let mut desk = MemDesk::new(rt.alloc());
-            desk.put("d", ACCUMULATOR.as_bytes())?;
-            desk.put("v", b"old")?;
-            desk.fail(call, number)?;
-            let status = status_of(rt.alloc(), "gen d v", &mut desk)?;
-            let held = desk.file("v").ok_or("no file")?;
-            if desk.fault_count() == 0 {
-                assert_eq!(rt; status, 0, "at {call:?} {number}");
-                assert_eq!(rt; held, whole, "at {call:?} {number}");
-            } else {
-                failures = failures.saturating_add(1);
-                assert_eq!(rt; status, 6, "at {call:?} {number}");
-                assert!(rt;
-                    held == b"old".as_slice() || whole.starts_with(held),
-                    "at {call:?} {number}"
-                );
-                assert_eq!(rt;
-                    desk.file("-"),
-                    Some(b"desk fault\n".as_slice()),
-                    "at {call:?} {number}"
-                );
-            }
-        }
-    }
-    assert!(rt; failures >= 4);
-    Ok(())
-}
-
-#[test]
-fn numbers_within_their_ranges(rt: HostRuntime) -> Result<(), Fail> {
+fn spellings_of_forms() -> [([&'static str; 6], Form); 3] {
     let top = "18446744073709551615";
-    for (numbers, form) in [
-        (["4", "8", "8", "3", "1", "250"], (4, 8, 8, 3, 1, 250)),
+    let hexadecimal = "0xFFFFFFFFFFFFFFFF";
+    [
         (
-            ["0x10", "064", "0x40", top, top, "0xFFFFFFFFFFFFFFFF"],
-            (16, 64, 64, u64::MAX, u64::MAX, u64::MAX),
+            ["4", "8", "8", "3", "1", "250"],
+            Form {
+                address: 4,
+                word: 8,
+                width: 8,
+                start: 3,
+                code: 1,
+                constant: 250,
+            },
         ),
-        (["004", "0x08", "1", "1", "255", "0"], (4, 8, 1, 1, 255, 0)),
-    ] {
-        let (address, word, width, start, code, constant) = form;
-        let text = spelled(rt.alloc(), numbers)?;
-        let want = Form {
-            address,
-            word,
-            width,
-            start,
-            code,
-            constant,
-        };
-        assert_eq!(rt; judge(rt.alloc(), text.as_bytes()), Ok(want));
-    }
-    for numbers in [
+        (
+            ["0x10", "064", "0x40", top, top, hexadecimal],
+            Form {
+                address: 16,
+                word: 64,
+                width: 64,
+                start: u64::MAX,
+                code: u64::MAX,
+                constant: u64::MAX,
+            },
+        ),
+        (
+            ["004", "0x08", "1", "1", "255", "0"],
+            Form {
+                address: 4,
+                word: 8,
+                width: 1,
+                start: 1,
+                code: 255,
+                constant: 0,
+            },
+        ),
+    ]
+}
+
+fn spellings_of_none() -> [[&'static str; 6]; 14] {
+    [
         ["3", "8", "8", "3", "1", "250"],
         ["17", "8", "8", "3", "1", "250"],
         ["4", "7", "8", "3", "1", "250"],
@@ -212,44 +272,61 @@ fn numbers_within_their_ranges(rt: HostRuntime) -> Result<(), Fail> {
         ["4", "0X8", "8", "3", "1", "250"],
         ["4", "8", "8", "", "1", "250"],
         ["4", "8", "8", "3", "", "250"],
-    ] {
+    ]
+}
+
+#[test]
+fn numbers_within_their_ranges(rt: HostRuntime) -> Result<(), Fail> {
+    for (numbers, form) in spellings_of_forms() {
         let text = spelled(rt.alloc(), numbers)?;
-        let fault = ReadFault::Refused(Judged::NotBuilt { line: 0 });
-        assert_eq!(rt;
-            judge(rt.alloc(), text.as_bytes()),
-            Err(fault),
-            "at {numbers:?}"
-        );
+        assert_eq!(rt; judge(rt.alloc(), text.as_bytes()), Ok(form));
+    }
+    let fault = ReadFault::Refused(Judged::NotBuilt { line: 0 });
+    for numbers in spellings_of_none() {
+        let text = spelled(rt.alloc(), numbers)?;
+        assert_eq!(rt; judge(rt.alloc(), text.as_bytes()), Err(fault), "at {text}");
     }
     Ok(())
 }
 
+fn changes_that_stay_built() -> [(&'static str, &'static str); 3] {
+    [
+        ("word 8\n", "word 0x8 # bits\n\n\t\n"),
+        ("  1 a = R", "1\ta  =\tR"),
+        ("format F op:8", "format F op:0x08"),
+    ]
+}
+
+fn changes_that_do_not() -> [(&'static str, &'static str); 13] {
+    [
+        ("format F op:8", "format F op:9"),
+        ("format F op:8", "format F op: 8"),
+        ("unit U alu 8", "unit U alu 9"),
+        ("unit U alu 8", "unit U mul 8"),
+        ("const 8 250", "const 9 250"),
+        ("word 8\n", "word 8 8\n"),
+        ("word 8\n", "word\n"),
+        ("word 8\n", ""),
+        ("word 8\n", "word 8\nword 8\n"),
+        ("word 8\n", "word 8 # \u{e4}\n"),
+        ("word 8\n", "word 8\r\n"),
+        ("transfer 1 0", "transfer 1 00"),
+        ("instr I", "instr J"),
+    ]
+}
+
+fn is_built_after(alloc: Global, from: &str, to: &str) -> Result<bool, AllocError> {
+    let text = accumulator().replace(alloc, from, to)?;
+    Ok(judge(alloc, text.as_bytes()).is_ok())
+}
+
 #[test]
 fn lines_as_they_are_due(rt: HostRuntime) -> Result<(), Fail> {
-    for (from, to, built) in [
-        ("word 8\n", "word 0x8 # bits\n\n\t\n", true),
-        ("  1 a = R", "1\ta  =\tR", true),
-        ("format F op:8", "format F op:0x08", true),
-        ("format F op:8", "format F op:9", false),
-        ("format F op:8", "format F op: 8", false),
-        ("unit U alu 8", "unit U alu 9", false),
-        ("unit U alu 8", "unit U mul 8", false),
-        ("const 8 250", "const 9 250", false),
-        ("word 8\n", "word 8 8\n", false),
-        ("word 8\n", "word\n", false),
-        ("word 8\n", "", false),
-        ("word 8\n", "word 8\nword 8\n", false),
-        ("word 8\n", "word 8 # \u{e4}\n", false),
-        ("word 8\n", "word 8\r\n", false),
-        ("transfer 1 0", "transfer 1 00", false),
-        ("instr I", "instr J", false),
-    ] {
-        let text = ACCUMULATOR.replace(rt.alloc(), from, to)?;
-        assert_eq!(rt;
-            judge(rt.alloc(), text.as_bytes()).is_ok(),
-            built,
-            "at {from} {to}"
-        );
+    for (from, to) in changes_that_stay_built() {
+        assert!(rt; is_built_after(rt.alloc(), from, to)?, "at {to}");
+    }
+    for (from, to) in changes_that_do_not() {
+        assert!(rt; !is_built_after(rt.alloc(), from, to)?, "at {to}");
     }
     Ok(())
 }
