@@ -71,7 +71,7 @@ module _ {X : Type 0} (p : X → Bool) where
     where
       go : ((i : ℕ) → slice_get (positions (k + 1) xs) i ≡ Some j → Passes (k + 1) xs i j) → (b : Bool) → p y ≡ b → (m : ℕ) → slice_get (if b then k ∷ positions (k + 1) xs else positions (k + 1) xs) m ≡ Some j → Passes k (y ∷ xs) m j
       go later true e zero at = record { n = zero; x = y; place = (let same : k ≡ j = cc in sym same ∙ sym (add-zero k)); at = refl; passes = e; before = refl }
-      go later true e (suc m) at = let one : (if p y then 1 else 0) ≡ 1 = rw e refl in let next : 1 + m ≡ suc m = omega arith in subst (λ i. Passes k (y ∷ xs) i j) next (one_on k y xs m j 1 one (later m at))
+      go later true e (suc m) at = let next : 1 + m ≡ suc m = omega arith in let one : (if p y then 1 else 0) ≡ 1 = rw e refl in subst (λ i. Passes k (y ∷ xs) i j) next (one_on k y xs m j 1 one (later m at))
       go later false e m at = let none : (if p y then 1 else 0) ≡ 0 = rw e refl in subst (λ i. Passes k (y ∷ xs) i j) (zero-add m) (one_on k y xs m j 0 none (later m at))
 
 pub get_right : {X : Type 0} (xs ys : List X) (i : ℕ) → slice_get (xs ++ ys) (length xs + i) ≡ slice_get ys i

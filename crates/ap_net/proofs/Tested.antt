@@ -1,7 +1,6 @@
 -- Rules on nets that are written out, told by tests that compute.
-use Rattle.std.proofs.Common.{◌≡◌, ◌≢◌, ℕ, ◌+◌, ◌&&◌, ◌||◌, suc, zero, List, [], ◌∷◌, Some, Bool, true, false, refl, sym, ap, subst, ◌∙◌, arith, eq-eqb}
+use Rattle.std.proofs.Common.{◌≡◌, ℕ, ◌+◌, ◌&&◌, ◌||◌, suc, zero, List, [], ◌∷◌, Some, Bool, true, false, refl, subst, arith}
 use Rattle.std.specs.Prelude.{slice_get, ◌==◌, IsTrue}
-use Rattle.std.specs.List.{list_any}
 use Rattle.ap_net.specs.declared.net.Role.{Role}
 use Rattle.ap_net.specs.declared.net.Role.TheVariants as role
 use Rattle.ap_net.specs.declared.net.FlatNet.{FlatNet}

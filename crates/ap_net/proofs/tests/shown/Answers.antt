@@ -1,4 +1,3 @@
-use Rattle.std.proofs.Common.{refl}
 use Rattle.ap_net.proofs.tests.shown.Goals as goal
 use Rattle.ap_net.proofs.Wired.{CellFits-more}
 
