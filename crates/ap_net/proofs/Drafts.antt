@@ -10,13 +10,12 @@ use Rattle.ap_net.specs.declared.cell.Wire.{Wire}
 use Rattle.ap_net.specs.declared.cell.Cell.{Cell}
 use Rattle.ap_net.specs.declared.net.FlatNet.{FlatNet}
 use Rattle.ap_net.specs.declared.net.Assign.{Assign}
-use Rattle.ap_net.specs.declared.net.Next.{Next}
 use Rattle.ap_net.specs.Cells.{operands, IsNet, CellFits, cell_value}
 use Rattle.ap_net.specs.declared.net.Role.TheVariants as role
-use Rattle.ap_net.specs.Names.{IsNew, IsNotNumbered}
-use Rattle.ap_net.specs.Wiring.{IsSource, reset_of, taken_names, Holds, Ranked, IsWired, Settles}
+use Rattle.ap_net.specs.Names.{IsNew}
+use Rattle.ap_net.specs.Wiring.{IsSource, reset_of, taken_names, Holds, Ranked, IsWired}
 use Rattle.ap_net.specs.Draft.{Draft, Begins, Extends, RanksOn, Adds, Closes, Makes, SettlesDraft}
-use Rattle.ap_net.proofs.Lists.{All-join, All-front, All-back, All-from, All-both, get_left}
+use Rattle.ap_net.proofs.Lists.{All-join, All-front, All-back, All-both, get_left}
 use Rattle.ap_net.proofs.Wired.{width_stays, number-IsNet, operands-CellFits, declared, IsNet-more, CellFits-more}
 
 Begins-trans : {X : Type 0} (xs ys zs : List X) → Begins xs ys → Begins ys zs → Begins xs zs

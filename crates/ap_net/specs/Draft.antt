@@ -1,6 +1,5 @@
 -- A module that is being built, and how a piece of circuit makes it grow.
 use Rattle.std.specs.Prelude.{◌≡◌, ℕ, ◌<◌, List, ◌++◌, length, slice_get, Some, count_by, Bool, true, false}
-use Rattle.ap_net.specs.declared.cell.Wire.{Wire}
 use Rattle.ap_net.specs.declared.net.Role.{Role}
 use Rattle.ap_net.specs.declared.net.Role.TheVariants as role
 use Rattle.ap_net.specs.declared.net.FlatNet.{FlatNet}

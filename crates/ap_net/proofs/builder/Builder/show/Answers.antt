@@ -1,11 +1,8 @@
-use Rattle.std.proofs.Common.{refl, ap, ◌∙◌, ◌≡◌, ℕ, ◌<◌, ◌^◌, arith, sym}
-use Rattle.ap_net.specs.declared.cell.Wire.{Wire}
-use Rattle.ap_net.specs.Cells.{cell_value}
-use Rattle.ap_net.specs.Wiring.{IsWired, Settles}
-use Rattle.ap_net.specs.Draft.{Draft, wire_count, SettlesDraft}
+use Rattle.std.proofs.Common.{refl}
+use Rattle.ap_net.specs.Wiring.{IsWired}
 use Rattle.ap_net.proofs.Lists.{get_end}
 use Rattle.ap_net.proofs.Wired.{IsNet-end, CellFits-more, IsFree-end, Undriven-end}
-use Rattle.ap_net.proofs.Drafts.{Adds-made, Closes-made, Settles-made, made}
+use Rattle.ap_net.proofs.Drafts.{Adds-made, Closes-made, Settles-made}
 use Rattle.ap_net.proofs.builder.Builder.show.Goals as goal
 
 pub cell-requires-clause-net : goal.cell-requires-clause-net
