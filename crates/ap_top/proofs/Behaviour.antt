@@ -1,5 +1,5 @@
-use Rattle.std.proofs.Common.{◌≡◌, ℕ, zero, suc, ◌+◌, ◌<◌, ◌≤◌, ◌%◌, ◌^◌, List, [], ◌∷◌, ◌++◌, length, map, Bool, true, false, Option, Some, None, refl, sym, ap, subst, ◌∙◌, arith, lit<}
-use Rattle.std.specs.Prelude.{slice_index, slice_get, ◌==◌, if◌then◌else◌, bit_and, codes, option_map}
+use Rattle.std.proofs.Common.{◌≡◌, ℕ, zero, suc, ◌+◌, ◌<◌, ◌≤◌, ◌%◌, ◌^◌, List, [], ◌∷◌, ◌++◌, length, map, Bool, true, false, Some, None, refl, sym, ap, subst, ◌∙◌, arith, lit<}
+use Rattle.std.specs.Prelude.{slice_index, slice_get, ◌==◌, if◌then◌else◌, codes, option_map}
 use Rattle.std.specs.List.{AllByRecursion as Each}
 use Rattle.std.proofs.lemmas.Nat.{pow_pos}
 use Rattle.std.proofs.lemmas.List.{length-map}
@@ -8,21 +8,21 @@ use Rattle.ap_net.specs.declared.cell.Wire.{Wire}
 use Rattle.ap_net.specs.declared.net.FlatNet.{FlatNet}
 use Rattle.ap_net.specs.declared.net.Next.{Next}
 use Rattle.ap_net.specs.Cells.{IsNet, widths_of}
-use Rattle.ap_net.specs.Wiring.{IsSource, Ranked}
+use Rattle.ap_net.specs.Wiring.{IsSource}
 use Rattle.ap_net.specs.Draft.{Draft, RanksOn}
 use Rattle.ap_net.specs.Modules.{ModuleText, IsModule, nets_of, next_placed, reset_at, reset_value, name_at, name_of}
-use Rattle.ap_net.specs.Flat.{Flat, Solves, opened, value_named, register_named, NamesAreFound, RegistersAreFound}
+use Rattle.ap_net.specs.Flat.{Flat, Solves, value_named, register_named, NamesAreFound, RegistersAreFound}
 use Rattle.ap_net.specs.Finished.{IsFinished}
-use Rattle.ap_net.specs.Outside.{Image, TraceLine, ImageFits, TraceFits, line_at}
-use Rattle.ap_net.specs.Runs.{NetState, Cycle, Runs, reset_state, bit}
-use Rattle.ap_net.specs.Rows.{Row, shown_row}
+use Rattle.ap_net.specs.Outside.{Image, TraceLine, ImageFits, line_at}
+use Rattle.ap_net.specs.Runs.{NetState, Cycle, Runs, reset_state}
+use Rattle.ap_net.specs.Rows.{shown_row}
 use Rattle.ap_net.specs.Sources.{Given, IsOrderedWith, AlwaysSolvable}
 use Rattle.ap_net.proofs.Laws.{net-Adds}
 use Rattle.ap_top.specs.declared.form.Form.{Form}
 use Rattle.ap_top.specs.Form.{IsForm}
-use Rattle.ap_top.specs.Machine.{State, start, cycle, over, row, fire, written, writes_of, sum_of}
-use Rattle.ap_top.specs.Processor.{outside_of, HoldsFlight, Keeps, IsProcessor, IsDesign, IsDesignModule}
-use Rattle.ap_top.specs.Base.{base, base_nets, base_assigns, wire, Nets, Equations, IsShown, four_nexts}
+use Rattle.ap_top.specs.Machine.{State, start, cycle, over, fire, written, writes_of, sum_of}
+use Rattle.ap_top.specs.Processor.{outside_of, HoldsFlight, Keeps, IsDesignModule}
+use Rattle.ap_top.specs.Base.{base, base_nets, Nets, Equations, IsShown, four_nexts}
 use Rattle.ap_top.proofs.TwoStage.{clocked_draft, base_rank, base_ranked, given, given_looks, given_fits, FourFit, HoldsState, fires, written_by, same}
 
 -- the writes of the group, by its enable
@@ -33,7 +33,6 @@ group_shown false sum = refl
 -- the module of a shown circuit does what the machine does
 module _ (form : Form) (ok : IsForm form) (d : Draft) (nets : Nets) (shown : IsShown form d nets) (m : ModuleText) (fin : IsFinished (clocked_draft form d nets) m) (kept : IsModule m)
     (found : NamesAreFound) (registers_found : RegistersAreFound) (solvable : AlwaysSolvable) where
-
   abbrev flat : Flat
   flat = record { nets = nets_of m; assigns = m.assigns; nexts = m.nexts }
 
@@ -78,10 +77,9 @@ module _ (form : Form) (ok : IsForm form) (d : Draft) (nets : Nets) (shown : IsS
       let enable : value_named (nets_of m) v (codes "w_R_e") ≡ read v nets.enable.number = named v solves.long shown.write_enable _ shown.enable_there ∙ e.1 in
       let value : value_named (nets_of m) v (codes "w_R_v") ≡ read v nets.sum.number = named v solves.long shown.write_value _ shown.value_there ∙ e.2 in
       let fired : (if read v nets.enable.number == 1 then Some (read v nets.sum.number) else None) ≡ fire form s.register s.stage =
-      fires form (read v 2) (read v 3) s.register (read v nets.enable.number) (read v nets.sum.number) s.stage h.2 (e.0).enable ((e.0).sum ∙ ap (sum_of form) h.1) in
-      (
+      fires form (read v 2) (read v 3) s.register (read v nets.enable.number) (read v nets.sum.number) s.stage h.2 (e.0).enable ((e.0).sum ∙ ap (sum_of form) h.1) in (
         (λ i. record { stall = stall i == 1; kill = kill i == 1; writes = (if enable i == 1 then record { group = 0; index = None; value = value i } ∷ [] else []) ++ [] })
-        ∙ (λ i. record { stall = false; kill = false; writes = (group_shown (read v nets.enable.number == 1) (read v nets.sum.number) ∙ ap writes_of fired) i }),
+            ∙ (λ i. record { stall = false; kill = false; writes = (group_shown (read v nets.enable.number == 1) (read v nets.sum.number) ∙ ap writes_of fired) i }),
         fired,
       )
 
@@ -99,8 +97,7 @@ module _ (form : Form) (ok : IsForm form) (d : Draft) (nets : Nets) (shown : IsS
       let held : HoldsState (read v 0 ∷ read v 1 ∷ read v 2 ∷ read v 3 ∷ []) s = subst (λ r. HoldsState r s) (sym c.registers ∙ before_edge v) h in
       let row = shows v c.solves s held in
       let address : value_named (nets_of m) v (codes "iaddr") ≡ s.pc = named v (c.solves).long 4 _ (based 4 _ refl) ∙ e.iaddr ∙ held.0 in
-      let fetched : read v 5 ≡ slice_index image.code s.pc = sym (named v (c.solves).long 5 _ (based 5 _ refl)) ∙ c.fetch ∙ ap (slice_index image.code) address in
-      (
+      let fetched : read v 5 ≡ slice_index image.code s.pc = sym (named v (c.solves).long 5 _ (based 5 _ refl)) ∙ c.fetch ∙ ap (slice_index image.code) address in (
         subst (λ r. HoldsState r (cycle form image s)) (sym (c.after ∙ after_edge v)) (
           e.next_address ∙ ap (λ n. (n + 1) % 2 ^ form.address) held.0,
           e.written ∙ written_by (read v nets.enable.number == 1) (read v nets.sum.number) (read v 1) ∙ (λ i. written (held.1 i) (row.1 i)),

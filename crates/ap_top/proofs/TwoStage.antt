@@ -1,30 +1,17 @@
-use Rattle.std.proofs.Common.{◌≡◌, ◌≢◌, ℕ, zero, suc, ◌+◌, ◌<◌, ◌≤◌, ◌%◌, ◌^◌, List, [], ◌∷◌, ◌++◌, length, map, Bool, true, false, Option, Some, None, refl, sym, ap, subst, ◌∙◌, arith, lit<}
+use Rattle.std.proofs.Common.{◌≡◌, ℕ, zero, suc, ◌<◌, ◌^◌, List, [], ◌∷◌, ◌++◌, Bool, true, false, Option, Some, None, refl, ap, subst, ◌∙◌, arith, lit<}
 use Rattle.std.specs.List.{AllByRecursion as Each}
-use Rattle.std.specs.Prelude.{slice_index, slice_get, ◌==◌, if◌then◌else◌, bit_and, codes}
+use Rattle.std.specs.Prelude.{slice_index, slice_get, ◌==◌, if◌then◌else◌, bit_and}
 use Rattle.std.proofs.lemmas.Nat.{pow_pos}
-use Rattle.std.proofs.lemmas.Option.{slice_get_within}
-use Rattle.ap_net.specs.declared.cell.Wire.{Wire}
 use Rattle.ap_net.specs.declared.net.Role.TheVariants as role
 use Rattle.ap_net.specs.declared.net.FlatNet.{FlatNet}
-use Rattle.ap_net.specs.declared.net.Assign.{Assign}
 use Rattle.ap_net.specs.declared.net.Next.{Next}
-use Rattle.ap_net.specs.Names.{AreDistinct}
-use Rattle.ap_net.specs.Cells.{IsNet, widths_of}
-use Rattle.ap_net.specs.Wiring.{IsSource, reset_of, Settles, Ranked, Undriven, Unclocked, IsDriven}
-use Rattle.ap_net.specs.Draft.{Draft, Adds, AreDriven, RegistersBelow, SettlesDraft, RanksOn}
-use Rattle.ap_net.specs.Modules.{ModuleText, IsModule, nets_of, next_placed, reset_at, reset_value, name_at, name_of}
-use Rattle.ap_net.specs.Flat.{Flat, Solves, opened, value_named, register_named, NamesAreFound, RegistersAreFound}
-use Rattle.ap_net.specs.Finished.{IsFinished}
-use Rattle.ap_net.specs.Outside.{Image, TraceLine, ImageFits, TraceFits, line_at}
-use Rattle.ap_net.specs.Runs.{NetState, Cycle, Runs, reset_state, bit}
-use Rattle.ap_net.specs.Rows.{Row, shown_row}
-use Rattle.ap_net.specs.Sources.{Given, IsOrderedWith, AlwaysSolvable}
-use Rattle.ap_net.proofs.Laws.{net-Adds}
+use Rattle.ap_net.specs.Wiring.{IsSource, reset_of, Ranked, Unclocked, IsDriven}
+use Rattle.ap_net.specs.Draft.{Draft, AreDriven, RegistersBelow}
+use Rattle.ap_net.specs.Runs.{bit}
 use Rattle.ap_top.specs.declared.form.Form.{Form}
-use Rattle.ap_top.specs.Form.{IsForm}
-use Rattle.ap_top.specs.Machine.{State, start, cycle, over, row, fire, written, writes_of, sum_of}
-use Rattle.ap_top.specs.Processor.{outside_of, HoldsFlight, Keeps, IsProcessor, IsDesign, IsDesignModule}
-use Rattle.ap_top.specs.Base.{base, base_nets, base_assigns, wire, Nets, Equations, IsShown, four_nexts}
+use Rattle.ap_top.specs.Machine.{State, fire, written, sum_of}
+use Rattle.ap_top.specs.Processor.{HoldsFlight}
+use Rattle.ap_top.specs.Base.{base, base_nets, base_assigns, Nets, IsShown, four_nexts}
 
 -- the draft with its registers driven
 abbrev pub clocked_draft : Form → Draft → Nets → Draft

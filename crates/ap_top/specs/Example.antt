@@ -1,5 +1,5 @@
 -- A worked example: the first rows of one small processor, computed from the definitions.
-use Rattle.std.specs.Prelude.{◌≡◌, ℕ, List, [], ◌∷◌, map, None, false}
+use Rattle.std.specs.Prelude.{◌≡◌, ℕ, [], ◌∷◌, map, None, false}
 use Rattle.ap_net.specs.Outside.{Image}
 use Rattle.ap_net.specs.Rows.{Row}
 use Rattle.ap_top.specs.declared.form.Form.{Form}

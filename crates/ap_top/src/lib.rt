@@ -22,5 +22,6 @@ impl From<ap_net::NoMemory> for NoMemory {
         NoMemory
     }
 }
+
 #[cfg(test)]
 mod tests;

@@ -66,12 +66,7 @@ fn make_next_address(out: &mut Builder, pc: Wire) -> Result<Wire, NoMemory>
 
 /// Whether the flight in the stage is the adding instruction.
 #[tactic(auto, using(ap_net::proofs::Laws::laws))]
-fn make_enable(
-    out: &mut Builder,
-    valid: Wire,
-    word: Wire,
-    code: u64,
-) -> Result<Wire, NoMemory>
+fn make_enable(out: &mut Builder, valid: Wire, word: Wire, code: u64) -> Result<Wire, NoMemory>
     requires fresh { CanFresh out.old.nets }
     requires valid { IsNet out.old.nets valid }
     requires one_bit { valid.width ≡ 1 }

@@ -1,5 +1,4 @@
-use Rattle.std.proofs.Common.{◌≡◌, ◌∙◌, refl, subst}
-use Rattle.ap_net.specs.declared.cell.Wire.{Wire}
+use Rattle.std.proofs.Common.{refl, subst}
 use Rattle.ap_net.specs.Cells.{IsNet}
 use Rattle.ap_net.specs.Draft.{Makes, SettlesDraft}
 use Rattle.ap_net.proofs.Laws.{Makes-trans, IsNet-Makes}

@@ -1,7 +1,6 @@
-use Rattle.std.proofs.Common.{◌≡◌, ◌≢◌, ◌∙◌, ◌++◌, ◌∷◌, [], List, ℕ, refl, ap}
+use Rattle.std.proofs.Common.{◌≢◌, ◌∙◌, ◌++◌, ◌∷◌, [], List, refl, ap}
 use Rattle.std.specs.Prelude.{codes}
 use Rattle.ap_net.specs.declared.net.Port.{Port}
-use Rattle.ap_net.specs.declared.net.FlatNet.{FlatNet}
 use Rattle.ap_net.specs.Names.{IsNew}
 use Rattle.ap_net.specs.Wiring.{taken_names}
 use Rattle.ap_net.specs.Modules.{ports_among}
