@@ -13,6 +13,7 @@ use crate::generate::generate;
 use crate::printing::{give_up, print_line};
 use crate::refusal::{Refusal, Stop, Trouble};
 use ap_desk::desk::Desk;
+use ap_desk::sure::SureDesk;
 use std::alloc::Global;
 
 /// Does the command that the words are.
@@ -71,4 +72,13 @@ pub fn serve<D: Desk>(alloc: Global, words: &[String], desk: &mut D) -> u8
         Ok(status) => status,
         Err(trouble) => give_up(trouble, desk),
     }
+}
+
+/// The same on the desk in memory that never fails: a command whose inputs are there and without fault is done, or
+/// memory ran out.
+pub fn serve_on_sure_desk(alloc: Global, words: &[String], desk: &mut SureDesk) -> u8
+    requires { HasGoodInputs (map string_bytes words.now) desk.old.files }
+    ensures { IsOrMemory 0 result }
+{
+    serve(alloc, words, desk)
 }
