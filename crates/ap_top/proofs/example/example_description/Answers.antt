@@ -10,21 +10,49 @@ lines : AreLines example_form first_form (lines_of example_text)
 unfolding lines_of number_value spelled_value
 lines = (
   (refl, (refl, (refl, tt))),
-  ((refl, (refl, ((codes "4", refl, refl), tt))),
-  ((refl, (refl, ((codes "8", refl, refl), tt))),
-  ((refl, (refl, (refl, (refl, tt)))),
-  ((refl, (refl, (refl, ((codes "8", refl, refl), ((codes "3", refl, refl), tt))))),
-  ((refl, (refl, (refl, (refl, ((codes "8", refl, refl), tt))))),
-  ((refl, (refl, (refl, ((codes "8", refl, refl), tt)))),
-  ((refl, (refl, (refl, (refl, (refl, tt))))),
-  ((refl, (refl, tt)),
-  ((refl, (refl, (refl, (refl, ((codes "1", refl, refl), tt))))),
-  ((refl, (refl, (refl, (refl, (refl, tt))))),
-  ((refl, (refl, (refl, (refl, (refl, ((codes "8", refl, refl), ((codes "250", refl, refl), tt))))))),
-  ((refl, (refl, (refl, (refl, (refl, (refl, (refl, tt))))))),
-  ((refl, (refl, (refl, (refl, (refl, tt))))),
-  ((refl, (refl, tt)),
-  tt)))))))))))))),
+  (
+    (refl, (refl, ((codes "4", refl, refl), tt))),
+    (
+      (refl, (refl, ((codes "8", refl, refl), tt))),
+      (
+        (refl, (refl, (refl, (refl, tt)))),
+        (
+          (refl, (refl, (refl, ((codes "8", refl, refl), ((codes "3", refl, refl), tt))))),
+          (
+            (refl, (refl, (refl, (refl, ((codes "8", refl, refl), tt))))),
+            (
+              (refl, (refl, (refl, ((codes "8", refl, refl), tt)))),
+              (
+                (refl, (refl, (refl, (refl, (refl, tt))))),
+                (
+                  (refl, (refl, tt)),
+                  (
+                    (refl, (refl, (refl, (refl, ((codes "1", refl, refl), tt))))),
+                    (
+                      (refl, (refl, (refl, (refl, (refl, tt))))),
+                      (
+                        (refl, (refl, (refl, (refl, (refl, ((codes "8", refl, refl), ((codes "250", refl, refl), tt))))))),
+                        (
+                          (refl, (refl, (refl, (refl, (refl, (refl, (refl, tt))))))),
+                          (
+                            (refl, (refl, (refl, (refl, (refl, tt))))),
+                            (
+                              (refl, (refl, tt)),
+                              tt,
+                            ),
+                          ),
+                        ),
+                      ),
+                    ),
+                  ),
+                ),
+              ),
+            ),
+          ),
+        ),
+      ),
+    ),
+  ),
 )
 
 pub returns : goal.returns
