@@ -1,6 +1,5 @@
-ghost use Rattle.std.specs.Prelude.{◌≡◌, ◌≤◌, ◌⊎◌, ◌↔◌, List, map, OnOk, OnErr, IfOk, IfErr, IsSomeAnd, Some, Contains};
+ghost use Rattle.std.specs.Prelude.{◌≡◌, ◌≤◌, map, OnOk, OnErr, IfOk, IfErr, IsSomeAnd, Some};
 ghost use Rattle.std.specs.String.{string_bytes};
-ghost use Rattle.ap_desk.specs.Causes.{Rose};
 ghost use Rattle.ap_desk.specs.Files.{Goes};
 ghost use Rattle.ap_top.specs.Commands.{IsCommand};
 ghost use Rattle.ap_top.specs.Endings.{Answers, IsDone, Refuses, StopsShort, IsPartDone};
