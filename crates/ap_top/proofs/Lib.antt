@@ -5,3 +5,4 @@ pub mod Matching
 pub mod Stopping
 pub mod TwoStage
 pub mod Behaviour
+pub mod Sure

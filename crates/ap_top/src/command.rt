@@ -1,4 +1,4 @@
-ghost use Rattle.std.specs.Prelude.{◌≡◌, ◌↔◌, ◌+◌, ◌<◌, List, length, map, drop, IsTrue, IfSome, IfNone};
+ghost use Rattle.std.specs.Prelude.{◌≡◌, ◌↔◌, ◌+◌, ◌<◌, length, map, IsTrue, IfSome, IfNone};
 ghost use Rattle.std.specs.List.{AllByRecursion as Each, zip};
 ghost use Rattle.std.specs.String.{string_bytes};
 ghost use Rattle.ap_desk.specs.Files.{IsFileName};

@@ -1,4 +1,4 @@
-ghost use Rattle.std.specs.Prelude.{◌≡◌, IfErr, IfNone, IfOk, IfSome, List, map};
+ghost use Rattle.std.specs.Prelude.{IfErr, IfNone, IfOk, IfSome, map};
 ghost use Rattle.ap_text.specs.Spans.{AreLinesWithin, line_in};
 ghost use Rattle.ap_top.specs.Form.{AreLines, IsDescription, IsForm, IsReadFault, first_form};
 

@@ -1,4 +1,4 @@
-ghost use Rattle.std.specs.Prelude.{◌≡◌, OnOk, IfErr};
+ghost use Rattle.std.specs.Prelude.{OnOk, IfErr};
 ghost use Rattle.ap_desk.specs.Files.{Goes, IsFileName};
 ghost use Rattle.ap_top.specs.Generate.{gen_sources, gen_targets};
 ghost use Rattle.ap_top.specs.Inputs.{FailsOn};

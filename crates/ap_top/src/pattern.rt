@@ -1,4 +1,4 @@
-ghost use Rattle.std.specs.Prelude.{◌≡◌, List, map};
+ghost use Rattle.std.specs.Prelude.{◌≡◌, map};
 ghost use Rattle.ap_top.specs.Form as form;
 ghost use Rattle.ap_top.specs.Form.{place_of};
 ghost use Rattle.ap_top.specs.Found.{token_of};

@@ -1,6 +1,5 @@
-ghost use Rattle.std.specs.Prelude.{◌≡◌, ◌≤◌, ◌⊎◌, ◌↔◌, List, map, OnOk, OnErr, IfOk, IfErr, IsSomeAnd, Some, Contains};
+ghost use Rattle.std.specs.Prelude.{◌≡◌, ◌≤◌, map, OnOk, OnErr, IfOk, IfErr, IsSomeAnd, Some};
 ghost use Rattle.std.specs.String.{string_bytes};
-ghost use Rattle.ap_desk.specs.Causes.{Rose};
 ghost use Rattle.ap_desk.specs.Files.{Goes};
 ghost use Rattle.ap_top.specs.Commands.{IsCommand};
 ghost use Rattle.ap_top.specs.Endings.{Answers, IsDone, Refuses, StopsShort, IsPartDone};
@@ -13,6 +12,7 @@ use crate::generate::generate;
 use crate::printing::{give_up, print_line};
 use crate::refusal::{Refusal, Stop, Trouble};
 use ap_desk::desk::Desk;
+use ap_desk::sure::SureDesk;
 use std::alloc::Global;
 
 /// Does the command that the words are.
@@ -71,4 +71,13 @@ pub fn serve<D: Desk>(alloc: Global, words: &[String], desk: &mut D) -> u8
         Ok(status) => status,
         Err(trouble) => give_up(trouble, desk),
     }
+}
+
+/// The same on the desk in memory that never fails: a command whose inputs are there and without fault is done, or
+/// memory ran out.
+pub fn serve_on_sure_desk(alloc: Global, words: &[String], desk: &mut SureDesk) -> u8
+    requires { HasGoodInputs (map string_bytes words.now) desk.old.files }
+    ensures { IsOrMemory 0 result }
+{
+    serve(alloc, words, desk)
 }

@@ -69,6 +69,29 @@ fn sure_text(alloc: Global, description: &[u8]) -> Result<Option<Vec<u8>>, Fail>
     }
 }
 
+/// The head of the module `top` for the first form with an address of 4 bits and words and a register of 8 bits.
+fn head_of_top() -> &'static str {
+    "module top (
+  input clk,
+  input rst,
+  output [3:0] iaddr,
+  input [7:0] idata,
+  input [0:0] mwait,
+  output [0:0] stall,
+  output [0:0] kill,
+  output [0:0] w_R_e,
+  output [7:0] w_R_v
+);
+"
+}
+
+#[test]
+fn a_text_begins_with_its_ports(rt: HostRuntime) -> Result<(), Fail> {
+    let text = sure_text(rt.alloc(), accumulator().as_bytes())?.ok_or("no text")?;
+    assert!(rt; text.starts_with(head_of_top().as_bytes()));
+    Ok(())
+}
+
 #[test]
 fn a_description_gives_a_text(rt: HostRuntime) -> Result<(), Fail> {
     let description = accumulator().as_bytes();

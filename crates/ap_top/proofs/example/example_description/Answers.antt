@@ -1,0 +1,73 @@
+use Rattle.std.proofs.Common.{◌≡◌, refl, lit≤, lit<}
+use Rattle.std.specs.Prelude.{codes}
+use Rattle.ap_text.specs.Lines.{lines_of}
+use Rattle.ap_text.specs.Numbers.{number_value, spelled_value}
+use Rattle.ap_top.specs.Form.{AreLines, first_form}
+use Rattle.ap_top.specs.Example.{example_form, example_text}
+use Rattle.ap_top.proofs.example.example_description.Goals as goal
+
+lines : AreLines example_form first_form (lines_of example_text)
+unfolding lines_of number_value spelled_value
+lines = (
+  (refl, (refl, (refl, tt))),
+  (
+    (refl, (refl, ((codes "4", refl, refl), tt))),
+    (
+      (refl, (refl, ((codes "8", refl, refl), tt))),
+      (
+        (refl, (refl, (refl, (refl, tt)))),
+        (
+          (refl, (refl, (refl, ((codes "8", refl, refl), ((codes "3", refl, refl), tt))))),
+          (
+            (refl, (refl, (refl, (refl, ((codes "8", refl, refl), tt))))),
+            (
+              (refl, (refl, (refl, ((codes "8", refl, refl), tt)))),
+              (
+                (refl, (refl, (refl, (refl, (refl, tt))))),
+                (
+                  (refl, (refl, tt)),
+                  (
+                    (refl, (refl, (refl, (refl, ((codes "1", refl, refl), tt))))),
+                    (
+                      (refl, (refl, (refl, (refl, (refl, tt))))),
+                      (
+                        (refl, (refl, (refl, (refl, (refl, ((codes "8", refl, refl), ((codes "250", refl, refl), tt))))))),
+                        (
+                          (refl, (refl, (refl, (refl, (refl, (refl, (refl, tt))))))),
+                          (
+                            (refl, (refl, (refl, (refl, (refl, tt))))),
+                            (
+                              (refl, (refl, tt)),
+                              tt,
+                            ),
+                          ),
+                        ),
+                      ),
+                    ),
+                  ),
+                ),
+              ),
+            ),
+          ),
+        ),
+      ),
+    ),
+  ),
+)
+
+pub returns : goal.returns
+returns c = record {
+  within = lit≤ tt;
+  first = record {
+    lines = lines;
+    ranges = record {
+      address_low = lit≤ tt;
+      address_high = lit≤ tt;
+      word_low = lit≤ tt;
+      word_high = lit≤ tt;
+      width_low = lit≤ tt;
+      width_high = lit≤ tt;
+      values = record { start = lit< tt; code_low = lit≤ tt; code_high = lit< tt; constant = lit< tt };
+    };
+  };
+}
