@@ -1,2 +1,5 @@
+pub mod Counts
+pub mod LowBits
 pub mod NameLemmas
+pub mod SignedValues
 pub mod TermValues

@@ -62,3 +62,7 @@ binary_value two.Mullo w a b = a * b % 2 ^ w
 binary_value two.Mulhi w a b = a * b / 2 ^ w
 binary_value two.Divu w a b = if b == 0 then 2 ^ w - 1 else a / b
 binary_value two.Remu w a b = if b == 0 then a else a % b
+
+-- a value of `from` bits that is to have `to` bits: each bit above is as its high bit
+abbrev pub sign_extended : ℕ → ℕ → ℕ → ℕ
+sign_extended v from to = if nat_lt v (2 ^ (from - 1)) then v else v + (2 ^ to - 2 ^ from)
