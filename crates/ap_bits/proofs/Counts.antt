@@ -37,8 +37,8 @@ unfolding zeros_above
 zeros_above_top zero j a h low high = absurd (omega arith)
 zeros_above_top (suc w) j a h low high =
     elim (cases_lt j w) [
-      inl below ↦ rw (lt-ltb a (2 ^ w) (omega (arith, power_le (suc j) w below))) (omega (arith, zeros_above_top w j a below low high))
-    | inr above ↦ let same : j ≡ w = omega arith in rw (le-ltb a (2 ^ w) (subst (λ k. 2 ^ k ≤ a) same low)) (omega arith)
+      | inl below ↦ rw (lt-ltb a (2 ^ w) (omega (arith, power_le (suc j) w below))) (omega (arith, zeros_above_top w j a below low high))
+      | inr above ↦ let same : j ≡ w = omega arith in rw (le-ltb a (2 ^ w) (subst (λ k. 2 ^ k ≤ a) same low)) (omega arith)
     ]
 
 pub zeros_above_word : (w a : ℕ) → w ≤ 64 → a < 2 ^ w → (64 - w ≤ count_leading_zeros 64 a) × (count_leading_zeros 64 a - (64 - w) ≡ zeros_above w a)

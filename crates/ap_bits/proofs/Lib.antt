@@ -1,4 +1,5 @@
 pub mod Counts
+pub mod LeastPowers
 pub mod LowBits
 pub mod NameLemmas
 pub mod SignedValues

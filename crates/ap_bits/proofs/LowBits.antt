@@ -49,11 +49,11 @@ difference_word a b w h below =
 pub below_by_quotient : (a m : ℕ) → 0 < m → ltb a m ≡ not (not (eqb (a / m) 0))
 below_by_quotient a m some =
     elim (cases_lt a m) [
-      inl below ↦ rw (lt-ltb a m below, div-eq_of_lt below) refl
-    | inr above ↦
-        let one : 1 ≤ a / m = le-div 1 a m some (omega arith) in
-        let more : a / m ≡ 0 → ⊥ = λ none. absurd (omega arith) in
-        rw (le-ltb a m above, ne_eqb (a / m) 0 more) refl
+      | inl below ↦ rw (lt-ltb a m below, div-eq_of_lt below) refl
+      | inr above ↦
+          let one : 1 ≤ a / m = le-div 1 a m some (omega arith) in
+          let more : a / m ≡ 0 → ⊥ = λ none. absurd (omega arith) in
+          rw (le-ltb a m above, ne_eqb (a / m) 0 more) refl
     ]
 
 -- a rotation in 128 bits

@@ -1,5 +1,5 @@
 -- What a card says of its resource: its widths, its latency, and the width of the input by which an operation is chosen.
-use Rattle.std.specs.Prelude.{ℕ, zero, suc, ◌+◌, ◌^◌, ◌==◌, ◌&&◌, nat_le, if◌then◌else◌, IsTrue, Bool, [], ◌∷◌, length}
+use Rattle.std.specs.Prelude.{ℕ, zero, suc, ◌+◌, ◌^◌, ◌==◌, ◌&&◌, ◌≤◌, nat_le, if◌then◌else◌, IsTrue, Bool, [], ◌∷◌, length}
 use Rattle.std.specs.List.{list_any}
 use Rattle.ap_bits.specs.declared.card.Card.{Card}
 use Rattle.ap_bits.specs.declared.card.Widths.{Widths}
@@ -35,3 +35,9 @@ select_width_for n = least_power n 1 n
 
 abbrev pub select_width : Card → ℕ
 select_width card = select_width_for (length card.ops)
+
+-- s is the least number of at least 1 with n ≤ 2^s
+pub record IsLeastPower (n s : ℕ) : Type 0 where
+  pub low : 1 ≤ s
+  pub room : n ≤ 2 ^ s
+  pub least : (t : ℕ) → 1 ≤ t → n ≤ 2 ^ t → s ≤ t

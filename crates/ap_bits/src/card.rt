@@ -1,4 +1,5 @@
 ghost use Rattle.std.specs.Prelude.{◌≡◌, ◌==◌, ◌++◌, ◌∷◌, [], length, OnOk, OnErr};
+ghost use Rattle.ap_bits.specs.Cards.{IsLeastPower, select_width};
 
 use crate::term::Term;
 use crate::{Name, NoMemory};
@@ -104,3 +105,9 @@ pub struct Card {
     /// How long it takes.
     pub latency: Latency,
 }
+
+/// The width of `sel` is the least of at least 1 at which each operation has a number of its own.
+#[tactic(auto, using(crate::proofs::LeastPowers::select_width_is_least))]
+pub fn select_width_is_least(card: &Card)
+    ensures { IsLeastPower (length card.now.ops) (select_width card.now) }
+{}

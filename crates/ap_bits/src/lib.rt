@@ -19,3 +19,5 @@ pub use words::{mask, sext};
 
 #[cfg(test)]
 mod rows;
+#[cfg(test)]
+mod tests;

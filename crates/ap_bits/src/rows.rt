@@ -1,7 +1,7 @@
 //! Worked rows: what the definitions say at the corners. The values on the right are worked out from the table of
 //! operations in words, apart from these definitions and from the code.
 ghost use Rattle.std.specs.Prelude.{◌≡◌, ◌∷◌, [], map, true, false};
-ghost use Rattle.ap_bits.specs.Operations.{unary_value};
+ghost use Rattle.ap_bits.specs.Operations.{sign_extended, unary_value};
 ghost use Rattle.ap_bits.specs.Rows.{corners, grid, shifts, turns};
 ghost use Rattle.ap_bits.specs.Terms.{term_value};
 ghost use Rattle.ap_bits.specs.Cards.{allows, cycles_at, select_width_for};
@@ -106,6 +106,14 @@ fn composes()
     ensures avg { term_value (Bin two.Srl (Bin two.Add A B) (Const 1)) 8 255 3 ≡ 1 }
     ensures nand { term_value (Bin two.Xor (Bin two.And A B) (Const 18446744073709551615)) 8 0 5 ≡ 255 }
     ensures nested { term_value (Un one.Pass (Bin two.Sub A B)) 1 0 1 ≡ 1 }
+{}
+
+/// Extensions by the high bit: of one bit, of 6 to 8, of 8 to 64, and to the same width.
+fn extends()
+    ensures bit { map (λ v. sign_extended v 1 64) (0 ∷ 1 ∷ []) ≡ 0 ∷ 18446744073709551615 ∷ [] }
+    ensures six { map (λ v. sign_extended v 6 8) (0 ∷ 31 ∷ 32 ∷ 63 ∷ []) ≡ 0 ∷ 31 ∷ 224 ∷ 255 ∷ [] }
+    ensures byte { map (λ v. sign_extended v 8 64) (127 ∷ 128 ∷ 255 ∷ []) ≡ 127 ∷ 18446744073709551488 ∷ 18446744073709551615 ∷ [] }
+    ensures same { map (λ v. sign_extended v 8 8) (0 ∷ 127 ∷ 128 ∷ 255 ∷ []) ≡ 0 ∷ 127 ∷ 128 ∷ 255 ∷ [] }
 {}
 
 /// The width of `sel` for 1, 2, 3, 4, 5, 9 and 64 operations, the widths, and the latencies.
