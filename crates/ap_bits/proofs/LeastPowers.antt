@@ -1,5 +1,5 @@
 -- The least power of two that is at least a number.
-use Rattle.std.proofs.Common.{◌≡◌, ℕ, zero, suc, ◌+◌, ◌^◌, ◌<◌, ◌≤◌, leb, refl, subst, arith, inl, inr}
+use Rattle.std.proofs.Common.{◌≡◌, ℕ, zero, suc, ◌+◌, ◌^◌, ◌<◌, ◌≤◌, subst, arith, inl, inr}
 use Rattle.std.proofs.lemmas.Bool.{cases_lt, le-leb, lt-leb}
 use Rattle.ap_bits.proofs.LowBits.{below_power, power_le}
 use Rattle.ap_bits.specs.Cards.{IsLeastPower, least_power, select_width_for}

@@ -1,4 +1,4 @@
-use Rattle.std.proofs.Common.{◌<◌, ◌%◌, arith}
+use Rattle.std.proofs.Common.{◌<◌, ◌%◌}
 use Rattle.std.proofs.lemmas.Nat.{mod_below}
 use Rattle.ap_bits.proofs.LowBits.{rotated_word}
 use Rattle.ap_bits.proofs.words.rotated.Goals as goal
