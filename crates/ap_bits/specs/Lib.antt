@@ -1,1 +1,6 @@
+pub mod Cards
 pub mod Names
+pub mod Operations
+pub mod Rows
+pub mod Terms
+pub mod formers

@@ -1,5 +1,6 @@
 -- Numbers of plain texts: decimal digits, or 0x and hexadecimal digits of either case; leading zeros are allowed.
-use Rattle.std.specs.Prelude.{ℕ, ◌+◌, ◌*◌, ◌^◌, ◌&&◌, nat_eq, nat_lt, List, drop, codes, fold, Option, Some, None, if◌then◌else◌}
+use Rattle.std.specs.Prelude.{ℕ, ◌+◌, ◌*◌, ◌^◌, ◌&&◌, ◌++◌, false, nat_eq, nat_lt, List, drop, codes, fold, Option, Some, None, if◌then◌else◌}
+use Rattle.std.specs.Fmt.{digits}
 use Rattle.std.specs.Char.{is_digit, digit_value}
 use Rattle.std.specs.List.{list_all, starts_with}
 use Rattle.ap_text.specs.Lines.{is_token}
@@ -24,3 +25,7 @@ if_fits (Some v) = if nat_lt v (2 ^ 64) then Some v else None
 -- the number that a token is, and nothing where it is none: one above 2^64 - 1 is none
 unfoldable pub number_value : List ℕ → Option ℕ
 number_value token = if_fits (spelled_value token)
+
+-- what is written of a number in hexadecimal: 0x and lower-case digits, with no leading zeros
+abbrev pub hexadecimal : ℕ → List ℕ
+hexadecimal v = codes "0x" ++ digits 16 false v

@@ -1,9 +1,10 @@
 //! Worked rows: what the definitions say of small texts and tokens, and what the calls answer.
 ghost use Rattle.std.specs.Prelude.{◌≡◌, ◌^◌, ◌-◌, [], ◌∷◌, ◌≤◌, length, codes, true, false, Some, None};
 ghost use Rattle.ap_text.specs.Lines.{lines_of};
-ghost use Rattle.ap_text.specs.Numbers.{spelled_value};
+ghost use Rattle.std.specs.Fmt.{decimal};
+ghost use Rattle.ap_text.specs.Numbers.{hexadecimal, spelled_value};
 
-use crate::{NoMemory, NumberFault, Span, lines, number};
+use crate::{NoMemory, NumberFault, Span, lines, number, put_dec, put_hex};
 use std::alloc::Global;
 use std::process::Abort;
 use std::test::Fail;
@@ -45,6 +46,17 @@ fn spells_nothing()
     ensures bare { spelled_value (codes "0x") ≡ None }
     ensures sign { spelled_value (codes "-1") ≡ None }
     ensures letter { spelled_value (codes "1F") ≡ None }
+{}
+
+/// What is written of numbers has no leading zeros.
+fn writes()
+    ensures decimal_zero { decimal 0 ≡ codes "0" }
+    ensures decimal_ten { decimal 10 ≡ codes "10" }
+    ensures decimal_largest { decimal 18446744073709551615 ≡ codes "18446744073709551615" }
+    ensures zero { hexadecimal 0 ≡ codes "0x0" }
+    ensures sixteen { hexadecimal 16 ≡ codes "0x10" }
+    ensures word { hexadecimal 43981 ≡ codes "0xabcd" }
+    ensures largest { hexadecimal 18446744073709551615 ≡ codes "0xffffffffffffffff" }
 {}
 
 /// A line of a table: its number, its tokens, and whether it is clean.
@@ -104,4 +116,20 @@ fn reads_numbers(rt: HostRuntime) {
     assert_eq!(rt; number(b"0X8"), Err(NumberFault::BadNumber));
     assert_eq!(rt; number(b"0x"), Err(NumberFault::BadNumber));
     assert_eq!(rt; number(b""), Err(NumberFault::BadNumber));
+}
+
+#[test]
+fn appends_numbers(rt: HostRuntime) -> Result<(), Fail> {
+    let alloc = rt.alloc();
+    let mut text = Vec::from_slice(alloc, b"> ")?;
+    put_dec(alloc, 0, &mut text)?;
+    put_hex(alloc, 0, &mut text)?;
+    put_dec(alloc, u64::MAX, &mut text)?;
+    put_hex(alloc, 8709, &mut text)?;
+    put_hex(alloc, u64::MAX, &mut text)?;
+    assert_eq!(rt;
+        text.as_slice(),
+        b"> 00x0184467440737095516150x22050xffffffffffffffff".as_slice()
+    );
+    Ok(())
 }

@@ -1,0 +1,30 @@
+ghost use Rattle.std.specs.Prelude.{◌≡◌, ◌++◌, OnOk, OnErr};
+ghost use Rattle.std.specs.Fmt.{decimal};
+ghost use Rattle.ap_text.specs.Numbers.{hexadecimal};
+
+use crate::NoMemory;
+use std::alloc::Global;
+
+/// Appends the decimal digits of `v`, with no leading zeros. `NoMemory` comes only where memory ran out; the text is then
+/// as it was.
+pub fn put_dec(alloc: Global, v: u64, out: &mut Vec<u8>) -> Result<(), NoMemory>
+    ensures ok { OnOk result (out.new.items ≡ out.old.items ++ decimal v) }
+    ensures err { OnErr result (out.new.items ≡ out.old.items) }
+{
+    let text = v.to_string(alloc).map_err(|_| NoMemory)?;
+    out.extend_from_slice(text.as_bytes())
+        .map_err(|_| NoMemory)?;
+    Ok(())
+}
+
+/// Appends `0x` and the lower-case hexadecimal digits of `v`, with no leading zeros. `NoMemory` comes only where memory ran
+/// out; the text is then as it was.
+pub fn put_hex(alloc: Global, v: u64, out: &mut Vec<u8>) -> Result<(), NoMemory>
+    ensures ok { OnOk result (out.new.items ≡ out.old.items ++ hexadecimal v) }
+    ensures err { OnErr result (out.new.items ≡ out.old.items) }
+{
+    let text = format!(in alloc; "0x{v:x}").map_err(|_| NoMemory)?;
+    out.extend_from_slice(text.as_bytes())
+        .map_err(|_| NoMemory)?;
+    Ok(())
+}
