@@ -1,0 +1,10 @@
+pub mod Beside
+pub mod Descriptions
+pub mod FaultTable
+pub mod Faults
+pub mod Groups
+pub mod Order
+pub mod Reading
+pub mod Reserved
+pub mod Shown
+pub mod Spelling
