@@ -1,5 +1,6 @@
 pub mod Beside
 pub mod Descriptions
+pub mod Designs
 pub mod FaultTable
 pub mod Faults
 pub mod Groups

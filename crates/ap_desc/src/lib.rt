@@ -18,3 +18,6 @@ pub use fault::{DescFault, Fault, Refusal};
 pub use items::Items;
 pub use statement::{FieldNumber, Statement, Word};
 pub use writing::show;
+
+#[cfg(test)]
+mod rows;
