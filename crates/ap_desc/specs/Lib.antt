@@ -8,4 +8,5 @@ pub mod Order
 pub mod Reading
 pub mod Reserved
 pub mod Shown
+pub mod Smallest
 pub mod Spelling

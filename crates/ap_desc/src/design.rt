@@ -127,25 +127,57 @@ pub enum Arg {
 #[derive(Clone, Copy, Debug, PartialEq, Eq)]
 pub enum Act {
     /// An operation of a unit, by its number on the kind's card.
-    Compute { unit: u32, op: u32, a: Arg, b: Arg },
+    Compute {
+        unit: u32,
+        op: u32,
+        a: Arg,
+        b: Arg,
+    },
     /// A read port of a file.
-    ReadFile { file: u32, port: u32, index: Arg },
+    ReadFile {
+        file: u32,
+        port: u32,
+        index: Arg,
+    },
     /// A register.
-    ReadReg { reg: u32 },
+    ReadReg {
+        reg: u32,
+    },
     /// A word of a memory.
-    ReadMem { mem: u32, at: Arg },
+    ReadMem {
+        mem: u32,
+        at: Arg,
+    },
     /// An input port.
-    ReadIn { input: u32 },
+    ReadIn {
+        input: u32,
+    },
     /// A constant.
-    Const { width: u32, value: u64 },
+    Const {
+        width: u32,
+        value: u64,
+    },
     /// Extension by 0.
-    Zext { width: u32, a: Arg },
+    Zext {
+        width: u32,
+        a: Arg,
+    },
     /// Extension by the high bit.
-    Sext { width: u32, a: Arg },
+    Sext {
+        width: u32,
+        a: Arg,
+    },
     /// The bits from `high` down to `low`.
-    Slice { high: u32, low: u32, a: Arg },
+    Slice {
+        high: u32,
+        low: u32,
+        a: Arg,
+    },
     /// `a` above `b`.
-    Cat { a: Arg, b: Arg },
+    Cat {
+        a: Arg,
+        b: Arg,
+    },
     /// A write port of a file.
     WriteFile {
         file: u32,
@@ -168,9 +200,14 @@ pub enum Act {
         guard: Option<Arg>,
     },
     /// A transfer where the condition is 1.
-    Branch { cond: Arg, target: Arg },
+    Branch {
+        cond: Arg,
+        target: Arg,
+    },
     /// A transfer.
-    Jump { target: Arg },
+    Jump {
+        target: Arg,
+    },
 }
 
 /// What a stage computes with and that may depend on another such node within the stage.

@@ -68,11 +68,8 @@ impl Fault {
         ensures { result ≡ phase_of self }
     {
         match self {
-            Fault::BadLine
-            | Fault::BadOrder
-            | Fault::TooMany
-            | Fault::Missing
-            | Fault::TooLong => 1,
+            Fault::BadLine | Fault::BadOrder | Fault::TooMany | Fault::Missing | Fault::TooLong =>
+                1,
             Fault::Unknown | Fault::Twice | Fault::NoKind | Fault::NoOperation => 2,
             Fault::Range
             | Fault::Differs
@@ -109,11 +106,8 @@ impl Fault {
             | Fault::FieldValue
             | Fault::TwoStages
             | Fault::StageOrder => 2,
-            Fault::TooMany
-            | Fault::NoKind
-            | Fault::Slice
-            | Fault::Overlap
-            | Fault::EarlyCommit => 3,
+            Fault::TooMany | Fault::NoKind | Fault::Slice | Fault::Overlap | Fault::EarlyCommit =>
+                3,
             Fault::Missing
             | Fault::NoOperation
             | Fault::TooWideConstant

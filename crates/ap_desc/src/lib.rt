@@ -21,3 +21,5 @@ pub use writing::show;
 
 #[cfg(test)]
 mod rows;
+#[cfg(test)]
+mod tests;

@@ -4,6 +4,7 @@ ghost use Rattle.ap_text.specs.Lines.{lines_of, tokens_of};
 ghost use Rattle.ap_desc.specs.Descriptions.{IsDescription};
 ghost use Rattle.ap_desc.specs.Faults.{HasFault, is_missing_some};
 ghost use Rattle.ap_desc.specs.Reading.{ReadsAs};
+ghost use Rattle.ap_desc.specs.Smallest.{smallest};
 ghost use Rattle.ap_desc.specs.Spelling.{Spells};
 
 use crate::{Fault, Statement, Word};
@@ -64,4 +65,10 @@ fn faults_of_form()
     ensures carriage_return { HasFault (codes "stages 2\naddress 4\nword 8\ntransfer 1 0\nformat R op:8\ninstr NOP R op=0\nend\r\n") Fault.Missing 0 }
     ensures more_than_end { HasFault (codes "stages 2\naddress 4\nword 8\ntransfer 1 0\nformat R op:8\ninstr NOP R op=0\nend end\n") Fault.Missing 0 }
     ensures none_missing { is_missing_some (lines_of (codes "stages 2\naddress 4\nword 8\ntransfer 1 0\nformat R op:8\ninstr NOP R op=0\nend\n")) ≡ false }
+{}
+
+/// The smallest description: what its text says, and that this is a description.
+fn smallest_description()
+    ensures reads { ReadsAs (codes "stages 2\naddress 4\nword 8\ntransfer 1 0\nformat R op:8\ninstr NOP R op=0\nend\n") smallest }
+    ensures description { IsDescription smallest }
 {}

@@ -42,15 +42,28 @@ pub struct FieldNumber {
 #[derive(Drop)]
 pub enum Statement {
     /// `stages N`: how many stages the pipeline has.
-    Stages { count: u64 },
+    Stages {
+        count: u64,
+    },
     /// `address A`: the bits of a code address.
-    Address { bits: u64 },
+    Address {
+        bits: u64,
+    },
     /// `word W`: the bits of a code word.
-    Word { bits: u64 },
+    Word {
+        bits: u64,
+    },
     /// `transfer B K`: the stage of branches and jumps, and the slots after them.
-    Transfer { stage: u64, slots: u64 },
+    Transfer {
+        stage: u64,
+        slots: u64,
+    },
     /// `reg NAME WIDTH RESET`: a register and its value at the start.
-    Reg { name: Name, width: u64, reset: u64 },
+    Reg {
+        name: Name,
+        width: u64,
+        reset: u64,
+    },
     /// `file NAME WIDTH CELLS READS WRITES`: a register file, with its numbers of cells, read ports and write ports.
     File {
         name: Name,
@@ -66,9 +79,16 @@ pub enum Statement {
         width: u64,
     },
     /// `in NAME WIDTH`: an input port.
-    In { name: Name, width: u64 },
+    In {
+        name: Name,
+        width: u64,
+    },
     /// `unit NAME KIND WIDTH`: a unit of a kind of the shelf.
-    Unit { name: Name, kind: Name, width: u64 },
+    Unit {
+        name: Name,
+        kind: Name,
+        width: u64,
+    },
     /// `format NAME FIELD:WIDTH ..`: the fields of a code word, the first in the high bits.
     Format {
         name: Name,
@@ -98,7 +118,11 @@ pub enum Statement {
         index: Word,
     },
     /// `S x = R`: a register.
-    ReadRegister { stage: u64, to: Name, reg: Name },
+    ReadRegister {
+        stage: u64,
+        to: Name,
+        reg: Name,
+    },
     /// `S x = M.read a`: a word of a memory.
     ReadMemory {
         stage: u64,
@@ -107,7 +131,11 @@ pub enum Statement {
         at: Word,
     },
     /// `S x = in P`: an input port.
-    ReadInput { stage: u64, to: Name, input: Name },
+    ReadInput {
+        stage: u64,
+        to: Name,
+        input: Name,
+    },
     /// `S x = const W V`: a constant.
     Const {
         stage: u64,
@@ -175,7 +203,10 @@ pub enum Statement {
         target: Word,
     },
     /// `S jump t`: a transfer.
-    Jump { stage: u64, target: Word },
+    Jump {
+        stage: u64,
+        target: Word,
+    },
     /// `end`: the instruction is complete.
     End,
 }

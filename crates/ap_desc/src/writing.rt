@@ -64,23 +64,35 @@ fn guard_text(alloc: Global, guard: &Option<Word>) -> Result<String, NoMemory>
 }
 
 /// The line of a statement.
-fn line_of(alloc: Global, statement: &Statement) -> Result<String, NoMemory>
+pub(crate) fn line_of(alloc: Global, statement: &Statement) -> Result<String, NoMemory>
     ensures { IfOk result (λ line. string_bytes line ≡ shown_line statement.now) }
 {
     match statement {
         Statement::Stages { count } => Ok(format!(in alloc; "stages {count}\n")?),
         Statement::Address { bits } => Ok(format!(in alloc; "address {bits}\n")?),
         Statement::Word { bits } => Ok(format!(in alloc; "word {bits}\n")?),
-        Statement::Transfer { stage, slots } => Ok(format!(in alloc; "transfer {stage} {slots}\n")?),
+        Statement::Transfer { stage, slots } => Ok(format!(in alloc;
+            "transfer {stage} {slots}\n"
+        )?),
         Statement::Reg { name, width, reset } => {
             let name = name.as_str();
             Ok(format!(in alloc; "reg {name} {width} {reset}\n")?)
         }
-        Statement::File { name, width, cells, reads, writes } => {
+        Statement::File {
+            name,
+            width,
+            cells,
+            reads,
+            writes,
+        } => {
             let name = name.as_str();
             Ok(format!(in alloc; "file {name} {width} {cells} {reads} {writes}\n")?)
         }
-        Statement::Mem { name, address, width } => {
+        Statement::Mem {
+            name,
+            address,
+            width,
+        } => {
             let name = name.as_str();
             Ok(format!(in alloc; "mem {name} {address} {width}\n")?)
         }
@@ -109,14 +121,25 @@ fn instruction_line(alloc: Global, statement: &Statement) -> Result<String, NoMe
             let fields = fields.as_str();
             Ok(format!(in alloc; "format {name}{fields}\n")?)
         }
-        Statement::Instr { name, format, fixed } => {
+        Statement::Instr {
+            name,
+            format,
+            fixed,
+        } => {
             let name = name.as_str();
             let format = format.as_str();
             let fixed = values_text(alloc, fixed.as_slice())?;
             let fixed = fixed.as_str();
             Ok(format!(in alloc; "instr {name} {format}{fixed}\n")?)
         }
-        Statement::WriteFile { stage, file, port, index, value, guard } => {
+        Statement::WriteFile {
+            stage,
+            file,
+            port,
+            index,
+            value,
+            guard,
+        } => {
             let file = file.as_str();
             let index = index.as_str();
             let value = value.as_str();
@@ -124,14 +147,25 @@ fn instruction_line(alloc: Global, statement: &Statement) -> Result<String, NoMe
             let guard = guard.as_str();
             Ok(format!(in alloc; "  {stage} {file}.w{port} {index} {value}{guard}\n")?)
         }
-        Statement::WriteRegister { stage, reg, value, guard } => {
+        Statement::WriteRegister {
+            stage,
+            reg,
+            value,
+            guard,
+        } => {
             let reg = reg.as_str();
             let value = value.as_str();
             let guard = guard_text(alloc, guard)?;
             let guard = guard.as_str();
             Ok(format!(in alloc; "  {stage} {reg} <- {value}{guard}\n")?)
         }
-        Statement::WriteMemory { stage, mem, at, value, guard } => {
+        Statement::WriteMemory {
+            stage,
+            mem,
+            at,
+            value,
+            guard,
+        } => {
             let mem = mem.as_str();
             let at = at.as_str();
             let value = value.as_str();
@@ -139,7 +173,11 @@ fn instruction_line(alloc: Global, statement: &Statement) -> Result<String, NoMe
             let guard = guard.as_str();
             Ok(format!(in alloc; "  {stage} {mem}.write {at} {value}{guard}\n")?)
         }
-        Statement::Branch { stage, cond, target } => {
+        Statement::Branch {
+            stage,
+            cond,
+            target,
+        } => {
             let cond = cond.as_str();
             let target = target.as_str();
             Ok(format!(in alloc; "  {stage} branch {cond} {target}\n")?)
@@ -159,7 +197,14 @@ fn read_line(alloc: Global, statement: &Statement) -> Result<String, NoMemory>
     ensures { IfOk result (λ line. string_bytes line ≡ shown_line statement.now) }
 {
     match statement {
-        Statement::Compute { stage, to, unit, op, a, b } => {
+        Statement::Compute {
+            stage,
+            to,
+            unit,
+            op,
+            a,
+            b,
+        } => {
             let to = to.as_str();
             let unit = unit.as_str();
             let op = op.as_str();
@@ -167,7 +212,13 @@ fn read_line(alloc: Global, statement: &Statement) -> Result<String, NoMemory>
             let b = b.as_str();
             Ok(format!(in alloc; "  {stage} {to} = {unit}.{op} {a} {b}\n")?)
         }
-        Statement::ReadFile { stage, to, file, port, index } => {
+        Statement::ReadFile {
+            stage,
+            to,
+            file,
+            port,
+            index,
+        } => {
             let to = to.as_str();
             let file = file.as_str();
             let index = index.as_str();
@@ -199,21 +250,42 @@ fn wiring_line(alloc: Global, statement: &Statement) -> Result<String, NoMemory>
     ensures { IfOk result (λ line. string_bytes line ≡ shown_line statement.now) }
 {
     match statement {
-        Statement::Const { stage, to, width, value } => {
+        Statement::Const {
+            stage,
+            to,
+            width,
+            value,
+        } => {
             let to = to.as_str();
             Ok(format!(in alloc; "  {stage} {to} = const {width} {value}\n")?)
         }
-        Statement::Zext { stage, to, width, a } => {
+        Statement::Zext {
+            stage,
+            to,
+            width,
+            a,
+        } => {
             let to = to.as_str();
             let a = a.as_str();
             Ok(format!(in alloc; "  {stage} {to} = zext {width} {a}\n")?)
         }
-        Statement::Sext { stage, to, width, a } => {
+        Statement::Sext {
+            stage,
+            to,
+            width,
+            a,
+        } => {
             let to = to.as_str();
             let a = a.as_str();
             Ok(format!(in alloc; "  {stage} {to} = sext {width} {a}\n")?)
         }
-        Statement::Slice { stage, to, high, low, a } => {
+        Statement::Slice {
+            stage,
+            to,
+            high,
+            low,
+            a,
+        } => {
             let to = to.as_str();
             let a = a.as_str();
             Ok(format!(in alloc; "  {stage} {to} = slice {high} {low} {a}\n")?)
