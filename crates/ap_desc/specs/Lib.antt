@@ -1,0 +1,12 @@
+pub mod Beside
+pub mod Descriptions
+pub mod Designs
+pub mod FaultTable
+pub mod Faults
+pub mod Groups
+pub mod Order
+pub mod Reading
+pub mod Reserved
+pub mod Shown
+pub mod Smallest
+pub mod Spelling
