@@ -190,13 +190,3 @@ IsRight design instr = IsSomeAnd (slice_get design.formats instr.format) (λ for
 
 abbrev pub is_named_nop : Instr → Bool
 is_named_nop instr = bytes_eq instr.name (codes "NOP")
-
--- the design is sound: all that it names is there, its numbers are within the limits, its names may be used, and its lines
--- stand in the order of a text. That no fault of names and widths holds of its lines is to be added here with what judges them
-pub record IsSound (design : Design) : Type 0 where
-  pub within : IsWithin design
-  pub names : IsTrue (list_all is_free_name (names_in design))
-  pub nop : IsTrue (list_any is_named_nop design.instrs)
-  pub lines : Rise 0 (lines_in design)
-  pub formats : Each (λ (f : Format). ArePlaced f.fields) design.formats
-  pub instrs : Each (IsRight design) design.instrs

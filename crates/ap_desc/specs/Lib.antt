@@ -9,4 +9,5 @@ pub mod Reading
 pub mod Reserved
 pub mod Shown
 pub mod Smallest
+pub mod Sound
 pub mod Spelling
