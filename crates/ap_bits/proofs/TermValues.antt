@@ -15,18 +15,23 @@ by_level : (t : Term) (level : Term-F Term) (w a b : ℕ) → roll-Term level �
 by_level t level w a b e = ap (λ x. term_value x w a b) (sym e)
 
 pub term_value-first : (w a b : ℕ) → term_value A w a b ≡ a
+unfolding term_value
 term_value-first w a b = by_level A level.A w a b rolls-A ∙ fold-roll-Term ℕ (level_value w a b) level.A
 
 pub term_value-second : (w a b : ℕ) → term_value B w a b ≡ b
+unfolding term_value
 term_value-second w a b = by_level B level.B w a b rolls-B ∙ fold-roll-Term ℕ (level_value w a b) level.B
 
 pub term_value-const : (c w a b : ℕ) → term_value (Const c) w a b ≡ c % 2 ^ w
+unfolding term_value
 term_value-const c w a b = by_level (Const c) (level.Const c) w a b (rolls-Const c) ∙ fold-roll-Term ℕ (level_value w a b) (level.Const c)
 
 pub term_value-un : (op : UnOp) (t : Term) (w a b : ℕ) → term_value (Un op t) w a b ≡ unary_value op w (term_value t w a b)
+unfolding term_value
 term_value-un op t w a b = by_level (Un op t) (level.Un op t) w a b (rolls-Un op t) ∙ fold-roll-Term ℕ (level_value w a b) (level.Un op t)
 
 pub term_value-bin : (op : BinOp) (s t : Term) (w a b : ℕ) → term_value (Bin op s t) w a b ≡ binary_value op w (term_value s w a b) (term_value t w a b)
+unfolding term_value
 term_value-bin op s t w a b = by_level (Bin op s t) (level.Bin op s t) w a b (rolls-Bin op s t) ∙ fold-roll-Term ℕ (level_value w a b) (level.Bin op s t)
 
 -- the value of a term as a clause writes it

@@ -14,5 +14,5 @@ level_value w a b (term.Un op x) = unary_value op w x
 level_value w a b (term.Bin op x y) = binary_value op w x y
 
 -- each part of a term has its value, up to the whole
-abbrev pub term_value : Term → ℕ → ℕ → ℕ → ℕ
+unfoldable pub term_value : Term → ℕ → ℕ → ℕ → ℕ
 term_value t w a b = fold-Term ℕ (level_value w a b) t

@@ -102,6 +102,7 @@ fn counts()
 {}
 
 /// The mean of 255 and 3 wraps: the sum is 2 modulo 256. A number in a term is taken modulo 2^w.
+#[tactic(auto, using(crate::proofs::TermValues::term_values))]
 fn composes()
     ensures avg { term_value (Bin two.Srl (Bin two.Add A B) (Const 1)) 8 255 3 ≡ 1 }
     ensures nand { term_value (Bin two.Xor (Bin two.And A B) (Const 18446744073709551615)) 8 0 5 ≡ 255 }

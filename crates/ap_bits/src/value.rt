@@ -7,6 +7,7 @@ use crate::words;
 
 /// The value of a term at `w` bits, for the operands `a` and `b`. `w` is from 1 to 64, and the operands are below 2^w, as
 /// the value is. It takes no memory.
+#[tactic(auto, using(crate::proofs::TermValues::term_values, std::proofs::lemmas::Nat::and_mask))]
 pub fn eval(t: &Term, w: u32, a: u64, b: u64) -> u64
     requires low { 1 ≤ w }
     requires high { w ≤ 64 }

@@ -1,6 +1,6 @@
-ghost use Rattle.std.specs.Prelude.{◌≡◌, ◌++◌, OnOk, OnErr};
+ghost use Rattle.std.specs.Prelude.{◌≡◌, ◌++◌, OnOk, OnErr, Some};
 ghost use Rattle.std.specs.Fmt.{decimal};
-ghost use Rattle.ap_text.specs.Numbers.{hexadecimal};
+ghost use Rattle.ap_text.specs.Numbers.{hexadecimal, number_value};
 
 use crate::NoMemory;
 use std::alloc::Global;
@@ -28,3 +28,10 @@ pub fn put_hex(alloc: Global, v: u64, out: &mut Vec<u8>) -> Result<(), NoMemory>
         .map_err(|_| NoMemory)?;
     Ok(())
 }
+
+/// What [`put_dec`] and [`put_hex`] append of a number is read as this number.
+#[tactic(auto, using(crate::proofs::Written::written))]
+pub fn written_is_read(v: u64)
+    ensures decimal { number_value (decimal v) ≡ Some v }
+    ensures hexadecimal { number_value (hexadecimal v) ≡ Some v }
+{}
