@@ -1,1 +1,5 @@
+pub mod Decimals
 pub mod NotSpelled
+pub mod PlainTokens
+pub mod ShownLines
+pub mod ShownTokens

@@ -1,5 +1,5 @@
 -- What holds of the design that a description without fault describes, and which words an instruction matches.
-use Rattle.std.specs.Prelude.{◌≡◌, ℕ, ◌+◌, ◌-◌, ◌*◌, ◌^◌, ◌<◌, ◌≤◌, ◌&&◌, nat_le, nat_lt, Bool, true, false, IsTrue, List, [], ◌∷◌, ◌++◌, length, map, sum_by, bit_and, codes, Option, Some, None, slice_get, IsSomeAnd, IfSome, if◌then◌else◌}
+use Rattle.std.specs.Prelude.{◌≡◌, ℕ, ◌+◌, ◌-◌, ◌*◌, ◌/◌, ◌%◌, ◌^◌, ◌<◌, ◌≤◌, ◌&&◌, nat_le, nat_lt, Bool, true, false, IsTrue, List, [], ◌∷◌, ◌++◌, length, map, sum_by, bit_and, codes, Option, Some, None, slice_get, IsSomeAnd, IfSome, if◌then◌else◌}
 use Rattle.std.specs.List.{AllByRecursion as Each, list_all, list_any, flat_map, filter_map, zip}
 use Rattle.std.specs.Option.{option_map_or}
 use Rattle.std.specs.Str.{bytes_eq}
@@ -22,6 +22,10 @@ use Rattle.ap_desc.specs.Reserved.{is_free_name}
 -- the word has the fixed value in the bits of the mask
 abbrev pub Matches : Instr → ℕ → Type 0
 Matches instr word = bit_and word instr.fixed_mask ≡ instr.fixed_value
+
+-- the value that a word gives a field: the bits of its place
+abbrev pub field_value : Field → ℕ → ℕ
+field_value field word = (word / 2 ^ field.low) % 2 ^ field.width
 
 -- a number of bits that a value may have
 abbrev pub is_width : ℕ → Bool
@@ -100,10 +104,6 @@ mask_bits word (field, value) = option_map_or (λ v. if is_counted word field v 
 abbrev pub value_bits : ℕ → Field × Option ℕ → ℕ
 value_bits word (field, value) = option_map_or (λ v. if is_counted word field v then v * 2 ^ field.low else 0) value 0
 
--- what a guard must meet, where there is one
-abbrev pub IfGuard : (Arg → Type 0) → Option Arg → Type 0
-IfGuard P guard = IfSome guard P
-
 -- an operand of a line before which so many locals were assigned, in an instruction whose format has these fields
 abbrev pub IsArg : ℕ → List Field → Arg → Type 0
 IsArg locals fields (arg.Local i) = i < locals
@@ -131,9 +131,9 @@ IsInRange design locals fields (act.Zext width a) = IsArg locals fields a
 IsInRange design locals fields (act.Sext width a) = IsArg locals fields a
 IsInRange design locals fields (act.Slice high low a) = IsArg locals fields a
 IsInRange design locals fields (act.Cat a b) = IsArg locals fields a × IsArg locals fields b
-IsInRange design locals fields (act.WriteFile file port index value guard) = IsWritePort design file port × IsArg locals fields index × IsArg locals fields value × IfGuard (IsArg locals fields) guard
-IsInRange design locals fields (act.WriteReg reg value guard) = (reg < length design.regs) × IsArg locals fields value × IfGuard (IsArg locals fields) guard
-IsInRange design locals fields (act.WriteMem mem at value guard) = (mem < length design.mems) × IsArg locals fields at × IsArg locals fields value × IfGuard (IsArg locals fields) guard
+IsInRange design locals fields (act.WriteFile file port index value guard) = IsWritePort design file port × IsArg locals fields index × IsArg locals fields value × IfSome guard (IsArg locals fields)
+IsInRange design locals fields (act.WriteReg reg value guard) = (reg < length design.regs) × IsArg locals fields value × IfSome guard (IsArg locals fields)
+IsInRange design locals fields (act.WriteMem mem at value guard) = (mem < length design.mems) × IsArg locals fields at × IsArg locals fields value × IfSome guard (IsArg locals fields)
 IsInRange design locals fields (act.Branch cond target) = IsArg locals fields cond × IsArg locals fields target
 IsInRange design locals fields (act.Jump target) = IsArg locals fields target
 
@@ -182,6 +182,7 @@ pub record IsInstr (design : Design) (fields : List Field) (instr : Instr) : Typ
   pub mask : instr.fixed_mask ≡ sum_by (mask_bits design.word) (zip fields instr.fixed)
   pub value : instr.fixed_value ≡ sum_by (value_bits design.word) (zip fields instr.fixed)
   pub locals : instr.locals ≡ filter_map (λ (m : Micro). local_width design instr.locals fields m.act) instr.micros
+  pub widths : IsTrue (list_all is_width instr.locals)
   pub range : AreInRange design 0 fields instr.micros
 
 -- its format is declared, and it is as the design's fields say

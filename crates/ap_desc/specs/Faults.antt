@@ -61,7 +61,8 @@ is_missing_some lines =
     none_begins (codes "stages" ∷ []) lines || none_begins (codes "address" ∷ []) lines || none_begins (codes "word" ∷ []) lines
     || none_begins (codes "transfer" ∷ []) lines || none_begins (codes "instr" ∷ codes "NOP" ∷ []) lines || is_left_open lines
 
--- a fault of form holds at the line of this number; line 0 is the text as a whole
+-- a fault of form holds at the line of this number; line 0 is the text as a whole. Where a line before it says nothing, that
+-- one is faulty, and of the order of this line nothing is said
 abbrev pub HasFormFault : List TextLine → Fault → ℕ → Type 0
 HasFormFault lines f.BadLine number = (before : List TextLine) × (line : TextLine) × StandsAt lines number before line × SaysNothing line
 HasFormFault lines f.BadOrder number = (earlier : List Statement) × (statement : Statement) × SaysAt lines number earlier statement × IsTrue (is_out_of_order earlier statement)
@@ -73,6 +74,10 @@ HasFormFault lines _ number = ⊥
 abbrev pub HasFault : List ℕ → Fault → ℕ → Type 0
 HasFault text f.TooLong number = (number ≡ 0) × (description_limit < length text)
 HasFault text kind number = (length text ≤ description_limit) × HasFormFault (lines_of text) kind number
+
+-- the text has no fault of form
+abbrev pub IsFaultless : List ℕ → Type 0
+IsFaultless text = (kind : Fault) (number : ℕ) → HasFault text kind number → ⊥
 
 -- one fault comes before another: by phase, then by line, then by number
 abbrev pub IsBefore : Fault → ℕ → Fault → ℕ → Type 0

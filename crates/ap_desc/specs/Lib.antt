@@ -1,6 +1,7 @@
 pub mod Beside
 pub mod Descriptions
 pub mod Designs
+pub mod Examples
 pub mod FaultTable
 pub mod Faults
 pub mod Groups
@@ -8,6 +9,5 @@ pub mod Order
 pub mod Reading
 pub mod Reserved
 pub mod Shown
-pub mod Smallest
 pub mod Sound
 pub mod Spelling

@@ -1,5 +1,5 @@
 -- The text of a description: one space between tokens, two before a micro-operation, decimal numbers, no comments.
-use Rattle.std.specs.Prelude.{ℕ, Bool, true, false, List, [], ◌∷◌, ◌++◌, codes, if◌then◌else◌}
+use Rattle.std.specs.Prelude.{ℕ, ◌+◌, Bool, true, false, List, [], ◌∷◌, ◌++◌, codes, if◌then◌else◌}
 use Rattle.std.specs.List.{flat_map}
 use Rattle.std.specs.Fmt.{decimal}
 use Rattle.ap_desc.specs.declared.description.Numbered.{Numbered}
@@ -21,10 +21,18 @@ abbrev pub spaced : List Token → List ℕ
 spaced [] = []
 spaced (token ∷ tokens) = shown_token token ++ flat_map after_space tokens
 
--- the line of a statement
+-- the line of a statement, without its line feed
+abbrev pub line_bytes : Statement → List ℕ
+line_bytes statement = (if is_micro statement then codes "  " else []) ++ spaced (spelling statement)
+
 abbrev pub shown_line : Statement → List ℕ
-shown_line statement = (if is_micro statement then codes "  " else []) ++ spaced (spelling statement) ++ codes "\n"
+shown_line statement = line_bytes statement ++ codes "\n"
 
 -- the text of a description
 abbrev pub shown_text : List Numbered → List ℕ
 shown_text statements = flat_map (λ n. shown_line n.statement) statements
+
+-- the same statements at lines that count up from this one
+abbrev pub renumbered : ℕ → List Numbered → List Numbered
+renumbered line [] = []
+renumbered line (n ∷ statements) = record { line = line; statement = n.statement } ∷ renumbered (line + 1) statements

@@ -1,5 +1,5 @@
 -- How each form of statement is spelled: its tokens, in order.
-use Rattle.std.specs.Prelude.{◌≡◌, ℕ, Bool, true, false, nat_lt, IsTrue, List, [], ◌∷◌, ◌++◌, map, codes, Option, Some, None}
+use Rattle.std.specs.Prelude.{◌≡◌, ℕ, ◌^◌, Bool, true, false, nat_lt, IsTrue, List, [], ◌∷◌, ◌++◌, map, codes, Option, Some, None}
 use Rattle.std.specs.List.{list_all}
 use Rattle.std.specs.Fmt.{decimal}
 use Rattle.ap_text.specs.Numbers.{number_value}
@@ -134,9 +134,15 @@ is_formed (s.ReadFile stage to file port index) = nat_lt port 10
 is_formed (s.WriteFile stage file port index value guard) = nat_lt port 10
 is_formed _ = true
 
--- the statement has a spelling: its names are names and none is reserved, and it is formed rightly
+-- a number that a token can spell is at most 2^64 - 1
+abbrev pub is_small : Token → Bool
+is_small (exactly bytes) = true
+is_small (tagged tag n) = nat_lt n (2 ^ 64)
+
+-- the statement has a spelling: its names are names and none is reserved, its numbers are small, and it is formed rightly
 pub record IsSpellable (statement : Statement) : Type 0 where
   pub names : IsTrue (list_all is_free_name (names_of statement))
+  pub numbers : IsTrue (list_all is_small (spelling statement))
   pub formed : IsTrue (is_formed statement)
 
 -- the bytes are a token of the form: a number may have any spelling

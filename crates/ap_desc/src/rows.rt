@@ -1,10 +1,13 @@
 //! Worked rows: what the definitions say of example lines and small texts, and what the calls write.
-ghost use Rattle.std.specs.Prelude.{◌≡◌, [], ◌∷◌, ◌++◌, codes, Some, None, false};
+ghost use Rattle.std.specs.Prelude.{◌≡◌, [], ◌∷◌, ◌++◌, map, codes, Some, None, false};
 ghost use Rattle.ap_text.specs.Lines.{lines_of, tokens_of};
 ghost use Rattle.ap_desc.specs.Descriptions.{IsDescription};
+ghost use Rattle.ap_desc.specs.Designs.{Matches, field_value};
+ghost use Rattle.ap_desc.specs.Sound.{IsSound};
 ghost use Rattle.ap_desc.specs.Faults.{HasFault, is_missing_some};
 ghost use Rattle.ap_desc.specs.Reading.{ReadsAs};
-ghost use Rattle.ap_desc.specs.Smallest.{smallest};
+ghost use Rattle.ap_desc.specs.Examples.{smallest, smallest_design, adder_design, adder_fields, adder_instr};
+ghost use Rattle.ap_desc.specs.declared.design.Field.{Field};
 ghost use Rattle.ap_desc.specs.Spelling.{Spells};
 
 use crate::{Fault, Statement, Word};
@@ -71,4 +74,18 @@ fn faults_of_form()
 fn smallest_description()
     ensures reads { ReadsAs (codes "stages 2\naddress 4\nword 8\ntransfer 1 0\nformat R op:8\ninstr NOP R op=0\nend\n") smallest }
     ensures description { IsDescription smallest }
+{}
+
+/// Designs that are sound.
+fn sound_designs()
+    ensures smallest { IsSound smallest_design }
+    ensures adder { IsSound adder_design }
+{}
+
+/// The word of an addition of cells 1 and 1 into cell 2 matches it, and NOP's and another operation's don't.
+fn matching_words()
+    ensures own { Matches adder_instr 0x1448 }
+    ensures nop { Matches adder_instr 0 → ⊥ }
+    ensures other_operation { Matches adder_instr 0x1449 → ⊥ }
+    ensures operands { map (λ (f : Field). field_value f 0x1448) adder_fields ≡ 1 ∷ 2 ∷ 1 ∷ 1 ∷ 0 ∷ [] }
 {}

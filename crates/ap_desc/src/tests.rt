@@ -1,6 +1,6 @@
 ghost use Rattle.std.specs.Prelude.{◌≡◌, IfOk};
 ghost use Rattle.ap_bits.specs.Names.{IsName};
-ghost use Rattle.ap_desc.specs.Smallest.{smallest, smallest_header};
+ghost use Rattle.ap_desc.specs.Examples.{smallest, smallest_header};
 
 use crate::writing::line_of;
 use crate::{Description, Fault, FieldNumber, Items, Numbered, Statement, Word, show};

@@ -8,6 +8,7 @@ unfolding number_value spelled_value
 returns-clause-stages c = record {
   spellable = record {
     names = refl;
+    numbers = refl;
     formed = refl;
   };
   spelled = (refl, ((codes "4", refl, refl), tt));
@@ -18,6 +19,7 @@ unfolding number_value spelled_value
 returns-clause-address c = record {
   spellable = record {
     names = refl;
+    numbers = refl;
     formed = refl;
   };
   spelled = (refl, ((codes "0x06", refl, refl), tt));
@@ -28,6 +30,7 @@ unfolding number_value spelled_value
 returns-clause-word c = record {
   spellable = record {
     names = refl;
+    numbers = refl;
     formed = refl;
   };
   spelled = (refl, ((codes "16", refl, refl), tt));
@@ -38,6 +41,7 @@ unfolding number_value spelled_value
 returns-clause-transfer c = record {
   spellable = record {
     names = refl;
+    numbers = refl;
     formed = refl;
   };
   spelled = (refl, ((codes "2", refl, refl), ((codes "1", refl, refl), tt)));
@@ -48,6 +52,7 @@ unfolding number_value spelled_value
 returns-clause-reg c = record {
   spellable = record {
     names = refl;
+    numbers = refl;
     formed = refl;
   };
   spelled = (refl, (refl, ((codes "16", refl, refl), ((codes "0xff", refl, refl), tt))));
@@ -58,6 +63,7 @@ unfolding number_value spelled_value
 returns-clause-file c = record {
   spellable = record {
     names = refl;
+    numbers = refl;
     formed = refl;
   };
   spelled = (refl, (refl, ((codes "16", refl, refl), ((codes "8", refl, refl), ((codes "2", refl, refl), ((codes "1", refl, refl), tt))))));
@@ -68,6 +74,7 @@ unfolding number_value spelled_value
 returns-clause-mem c = record {
   spellable = record {
     names = refl;
+    numbers = refl;
     formed = refl;
   };
   spelled = (refl, (refl, ((codes "8", refl, refl), ((codes "16", refl, refl), tt))));
@@ -78,6 +85,7 @@ unfolding number_value spelled_value
 returns-clause-input c = record {
   spellable = record {
     names = refl;
+    numbers = refl;
     formed = refl;
   };
   spelled = (refl, (refl, ((codes "16", refl, refl), tt)));
@@ -88,6 +96,7 @@ unfolding number_value spelled_value
 returns-clause-resource c = record {
   spellable = record {
     names = refl;
+    numbers = refl;
     formed = refl;
   };
   spelled = (refl, (refl, (refl, ((codes "16", refl, refl), tt))));
@@ -98,6 +107,7 @@ unfolding number_value spelled_value
 returns-clause-format c = record {
   spellable = record {
     names = refl;
+    numbers = refl;
     formed = refl;
   };
   spelled = (refl, (refl, ((codes "4", refl, refl), ((codes "0x3", refl, refl), tt))));

@@ -17,8 +17,8 @@ returns-clause-stray_end c = (
       before = record { number = 1; tokens = codes "stages" ∷ codes "2" ∷ []; clean = true } ∷ [];
       line = record { number = 2; tokens = codes "end" ∷ []; clean = true };
       place = record { after = []; parts = refl; numbered = refl };
-      said = (record { clean = refl; spells = record { spellable = record { names = refl; formed = refl }; spelled = (refl, ((codes "2", refl, refl), tt)) } }, tt);
-      says = record { clean = refl; spells = record { spellable = record { names = refl; formed = refl }; spelled = (refl, tt) } };
+      said = (record { clean = refl; spells = record { spellable = record { names = refl; numbers = refl; formed = refl }; spelled = (refl, ((codes "2", refl, refl), tt)) } }, tt);
+      says = record { clean = refl; spells = record { spellable = record { names = refl; numbers = refl; formed = refl }; spelled = (refl, tt) } };
     },
     refl,
   ),
@@ -35,8 +35,8 @@ returns-clause-second_header c = (
       before = record { number = 1; tokens = codes "stages" ∷ codes "2" ∷ []; clean = true } ∷ [];
       line = record { number = 3; tokens = codes "stages" ∷ codes "0x2" ∷ []; clean = true };
       place = record { after = []; parts = refl; numbered = refl };
-      said = (record { clean = refl; spells = record { spellable = record { names = refl; formed = refl }; spelled = (refl, ((codes "2", refl, refl), tt)) } }, tt);
-      says = record { clean = refl; spells = record { spellable = record { names = refl; formed = refl }; spelled = (refl, ((codes "0x2", refl, refl), tt)) } };
+      said = (record { clean = refl; spells = record { spellable = record { names = refl; numbers = refl; formed = refl }; spelled = (refl, ((codes "2", refl, refl), tt)) } }, tt);
+      says = record { clean = refl; spells = record { spellable = record { names = refl; numbers = refl; formed = refl }; spelled = (refl, ((codes "0x2", refl, refl), tt)) } };
     },
     refl,
   ),
@@ -53,8 +53,8 @@ returns-clause-too_many c = (
       before = record { number = 1; tokens = codes "mem" ∷ codes "A" ∷ codes "1" ∷ codes "1" ∷ []; clean = true } ∷ record { number = 2; tokens = codes "mem" ∷ codes "B" ∷ codes "1" ∷ codes "1" ∷ []; clean = true } ∷ record { number = 3; tokens = codes "mem" ∷ codes "C" ∷ codes "1" ∷ codes "1" ∷ []; clean = true } ∷ record { number = 4; tokens = codes "mem" ∷ codes "D" ∷ codes "1" ∷ codes "1" ∷ []; clean = true } ∷ [];
       line = record { number = 5; tokens = codes "mem" ∷ codes "E" ∷ codes "1" ∷ codes "1" ∷ []; clean = true };
       place = record { after = []; parts = refl; numbered = refl };
-      said = (record { clean = refl; spells = record { spellable = record { names = refl; formed = refl }; spelled = (refl, (refl, ((codes "1", refl, refl), ((codes "1", refl, refl), tt)))) } }, (record { clean = refl; spells = record { spellable = record { names = refl; formed = refl }; spelled = (refl, (refl, ((codes "1", refl, refl), ((codes "1", refl, refl), tt)))) } }, (record { clean = refl; spells = record { spellable = record { names = refl; formed = refl }; spelled = (refl, (refl, ((codes "1", refl, refl), ((codes "1", refl, refl), tt)))) } }, (record { clean = refl; spells = record { spellable = record { names = refl; formed = refl }; spelled = (refl, (refl, ((codes "1", refl, refl), ((codes "1", refl, refl), tt)))) } }, tt))));
-      says = record { clean = refl; spells = record { spellable = record { names = refl; formed = refl }; spelled = (refl, (refl, ((codes "1", refl, refl), ((codes "1", refl, refl), tt)))) } };
+      said = (record { clean = refl; spells = record { spellable = record { names = refl; numbers = refl; formed = refl }; spelled = (refl, (refl, ((codes "1", refl, refl), ((codes "1", refl, refl), tt)))) } }, (record { clean = refl; spells = record { spellable = record { names = refl; numbers = refl; formed = refl }; spelled = (refl, (refl, ((codes "1", refl, refl), ((codes "1", refl, refl), tt)))) } }, (record { clean = refl; spells = record { spellable = record { names = refl; numbers = refl; formed = refl }; spelled = (refl, (refl, ((codes "1", refl, refl), ((codes "1", refl, refl), tt)))) } }, (record { clean = refl; spells = record { spellable = record { names = refl; numbers = refl; formed = refl }; spelled = (refl, (refl, ((codes "1", refl, refl), ((codes "1", refl, refl), tt)))) } }, tt))));
+      says = record { clean = refl; spells = record { spellable = record { names = refl; numbers = refl; formed = refl }; spelled = (refl, (refl, ((codes "1", refl, refl), ((codes "1", refl, refl), tt)))) } };
     },
     refl,
   ),

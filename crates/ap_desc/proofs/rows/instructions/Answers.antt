@@ -9,6 +9,7 @@ unfolding number_value spelled_value
 returns-clause-instr c = record {
   spellable = record {
     names = refl;
+    numbers = refl;
     formed = refl;
   };
   spelled = (refl, (refl, (refl, ((codes "1", refl, refl), tt))));
@@ -19,6 +20,7 @@ unfolding number_value spelled_value
 returns-clause-free_instr c = record {
   spellable = record {
     names = refl;
+    numbers = refl;
     formed = refl;
   };
   spelled = (refl, (refl, (refl, tt)));
@@ -29,6 +31,7 @@ unfolding number_value spelled_value
 returns-clause-write_file c = record {
   spellable = record {
     names = refl;
+    numbers = refl;
     formed = refl;
   };
   spelled = ((codes "3", refl, refl), (ap (λ d. codes "GPR.w" ++ d) (sym (decimal_digit 1 (lit< tt))), (refl, (refl, tt))));
@@ -39,6 +42,7 @@ unfolding number_value spelled_value
 returns-clause-write_register c = record {
   spellable = record {
     names = refl;
+    numbers = refl;
     formed = refl;
   };
   spelled = ((codes "1", refl, refl), (refl, (refl, (refl, tt))));
@@ -49,6 +53,7 @@ unfolding number_value spelled_value
 returns-clause-write_memory c = record {
   spellable = record {
     names = refl;
+    numbers = refl;
     formed = refl;
   };
   spelled = ((codes "2", refl, refl), (refl, (refl, (refl, tt))));
@@ -59,6 +64,7 @@ unfolding number_value spelled_value
 returns-clause-guarded_file c = record {
   spellable = record {
     names = refl;
+    numbers = refl;
     formed = refl;
   };
   spelled = ((codes "3", refl, refl), (ap (λ d. codes "GPR.w" ++ d) (sym (decimal_digit 0 (lit< tt))), (refl, (refl, (refl, (refl, tt))))));
@@ -69,6 +75,7 @@ unfolding number_value spelled_value
 returns-clause-guarded_register c = record {
   spellable = record {
     names = refl;
+    numbers = refl;
     formed = refl;
   };
   spelled = ((codes "1", refl, refl), (refl, (refl, (refl, (refl, (refl, tt))))));
@@ -79,6 +86,7 @@ unfolding number_value spelled_value
 returns-clause-guarded_memory c = record {
   spellable = record {
     names = refl;
+    numbers = refl;
     formed = refl;
   };
   spelled = ((codes "2", refl, refl), (refl, (refl, (refl, (refl, (refl, tt))))));
@@ -89,6 +97,7 @@ unfolding number_value spelled_value
 returns-clause-branch c = record {
   spellable = record {
     names = refl;
+    numbers = refl;
     formed = refl;
   };
   spelled = ((codes "2", refl, refl), (refl, (refl, (refl, tt))));
@@ -99,6 +108,7 @@ unfolding number_value spelled_value
 returns-clause-jump c = record {
   spellable = record {
     names = refl;
+    numbers = refl;
     formed = refl;
   };
   spelled = ((codes "2", refl, refl), (refl, (refl, tt)));
@@ -109,6 +119,7 @@ unfolding number_value spelled_value
 returns-clause-done c = record {
   spellable = record {
     names = refl;
+    numbers = refl;
     formed = refl;
   };
   spelled = (refl, tt);

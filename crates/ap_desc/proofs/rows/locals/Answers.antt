@@ -9,6 +9,7 @@ unfolding number_value spelled_value
 returns-clause-compute c = record {
   spellable = record {
     names = refl;
+    numbers = refl;
     formed = refl;
   };
   spelled = ((codes "2", refl, refl), (refl, (refl, (refl, (refl, (refl, tt))))));
@@ -19,6 +20,7 @@ unfolding number_value spelled_value
 returns-clause-compute_like_port c = record {
   spellable = record {
     names = refl;
+    numbers = refl;
     formed = refl;
   };
   spelled = ((codes "1", refl, refl), (refl, (refl, (refl, (refl, (refl, tt))))));
@@ -29,6 +31,7 @@ unfolding number_value spelled_value
 returns-clause-read_file c = record {
   spellable = record {
     names = refl;
+    numbers = refl;
     formed = refl;
   };
   spelled = ((codes "1", refl, refl), (refl, (refl, (ap (λ d. codes "GPR.r" ++ d) (sym (decimal_digit 0 (lit< tt))), (refl, tt)))));
@@ -39,6 +42,7 @@ unfolding number_value spelled_value
 returns-clause-read_register c = record {
   spellable = record {
     names = refl;
+    numbers = refl;
     formed = refl;
   };
   spelled = ((codes "1", refl, refl), (refl, (refl, (refl, tt))));
@@ -49,6 +53,7 @@ unfolding number_value spelled_value
 returns-clause-read_memory c = record {
   spellable = record {
     names = refl;
+    numbers = refl;
     formed = refl;
   };
   spelled = ((codes "2", refl, refl), (refl, (refl, (refl, (refl, tt)))));
@@ -59,6 +64,7 @@ unfolding number_value spelled_value
 returns-clause-read_input c = record {
   spellable = record {
     names = refl;
+    numbers = refl;
     formed = refl;
   };
   spelled = ((codes "2", refl, refl), (refl, (refl, (refl, (refl, tt)))));
@@ -69,6 +75,7 @@ unfolding number_value spelled_value
 returns-clause-constant c = record {
   spellable = record {
     names = refl;
+    numbers = refl;
     formed = refl;
   };
   spelled = ((codes "1", refl, refl), (refl, (refl, (refl, ((codes "16", refl, refl), ((codes "0", refl, refl), tt))))));
@@ -79,6 +86,7 @@ unfolding number_value spelled_value
 returns-clause-zext c = record {
   spellable = record {
     names = refl;
+    numbers = refl;
     formed = refl;
   };
   spelled = ((codes "3", refl, refl), (refl, (refl, (refl, ((codes "16", refl, refl), (refl, tt))))));
@@ -89,6 +97,7 @@ unfolding number_value spelled_value
 returns-clause-sext c = record {
   spellable = record {
     names = refl;
+    numbers = refl;
     formed = refl;
   };
   spelled = ((codes "1", refl, refl), (refl, (refl, (refl, ((codes "16", refl, refl), (refl, tt))))));
@@ -99,6 +108,7 @@ unfolding number_value spelled_value
 returns-clause-slice c = record {
   spellable = record {
     names = refl;
+    numbers = refl;
     formed = refl;
   };
   spelled = ((codes "2", refl, refl), (refl, (refl, (refl, ((codes "7", refl, refl), ((codes "0", refl, refl), (refl, tt)))))));
@@ -109,6 +119,7 @@ unfolding number_value spelled_value
 returns-clause-cat c = record {
   spellable = record {
     names = refl;
+    numbers = refl;
     formed = refl;
   };
   spelled = ((codes "2", refl, refl), (refl, (refl, (refl, (refl, (refl, tt))))));
