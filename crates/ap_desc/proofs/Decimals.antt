@@ -1,4 +1,4 @@
-use Rattle.std.proofs.Common.{◌≡◌, ℕ, ◌+◌, ◌*◌, ◌<◌, ◌^◌, List, [], ◌∷◌, ◌&&◌, Bool, true, false, Option, Some, None, length, sym, ap, refl, arith, rules, ◌∙◌, zero, suc, cond}
+use Rattle.std.proofs.Common.{◌≡◌, ℕ, ◌+◌, ◌*◌, ◌<◌, ◌^◌, List, [], ◌∷◌, Bool, true, false, Some, length, refl, arith, rules}
 use Rattle.std.specs.Prelude.{codes, fold, nat_eq, nat_lt}
 use Rattle.std.specs.Fmt.{decimal}
 use Rattle.std.specs.Char.{is_digit, digit_value}
@@ -7,7 +7,7 @@ use Rattle.std.proofs.lemmas.Bool.Decides.{nat_tests}
 use Rattle.std.proofs.lemmas.Fmt.{digits_decimal, digits_value-decimal, decimal_nonempty}
 use Rattle.std.proofs.lemmas.Str.Parse.{IsNumeralModel, numerals_by_fold}
 use Rattle.ap_text.specs.Lines.{is_token}
-use Rattle.ap_text.specs.Numbers.{value_in, digits_in, spelled_value, number_value, if_fits}
+use Rattle.ap_text.specs.Numbers.{value_in, spelled_value, number_value}
 
 -- whether all bytes are decimal digits
 abbrev pub are_digits : List ℕ → Bool

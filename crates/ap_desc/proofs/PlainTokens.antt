@@ -1,7 +1,7 @@
-use Rattle.std.proofs.Common.{◌≡◌, ℕ, ◌<◌, ◌≤◌, ◌^◌, List, [], ◌∷◌, ◌++◌, ◌&&◌, not, Bool, true, false, Option, Some, None, length, map, refl, arith, ◌∙◌, sym, ap}
-use Rattle.std.specs.Prelude.{codes, nat_le, nat_lt, nat_eq, ◌==◌}
+use Rattle.std.proofs.Common.{◌≡◌, ℕ, ◌<◌, ◌^◌, List, [], ◌∷◌, ◌++◌, ◌&&◌, not, Bool, true, Option, Some, None, length, map, refl, arith, ◌∙◌, sym}
+use Rattle.std.specs.Prelude.{codes, nat_le, nat_lt, ◌==◌}
 use Rattle.std.specs.Fmt.{decimal}
-use Rattle.std.specs.Char.{is_ascii_alphabetic, is_ascii_alphanumeric, is_digit}
+use Rattle.std.specs.Char.{is_ascii_alphanumeric, is_digit}
 use Rattle.std.specs.List.{list_all}
 use Rattle.std.proofs.lemmas.List.Folds.{list_all-append}
 use Rattle.std.proofs.lemmas.Bool.Decides.{nat_tests}
@@ -13,10 +13,9 @@ use Rattle.ap_desc.specs.declared.statement.FieldNumber.{FieldNumber}
 use Rattle.ap_desc.specs.declared.statement.Statement.{Statement}
 use Rattle.ap_desc.specs.declared.statement.Statement.TheVariants as s
 use Rattle.ap_desc.specs.Reserved.{is_free_name, is_among, statement_words, micro_words, memory_words}
-use Rattle.ap_desc.specs.Shown.{shown_token}
-use Rattle.ap_desc.specs.Spelling.{Token, exactly, tagged, number, operand, part_of, width_token, value_token, guard_tokens, guard_names, field_names, word_names, names_of, IsSpellable, is_small, spelling}
-use Rattle.ap_desc.proofs.Decimals.{are_digits, decimal_are_digits, decimal_is_token}
-use Rattle.ap_desc.proofs.ShownTokens.{left, right, small_below}
+use Rattle.ap_desc.specs.Spelling.{Token, exactly, tagged, operand, part_of, width_token, value_token, guard_tokens, guard_names, field_names, word_names, IsSpellable, spelling}
+use Rattle.ap_desc.proofs.Decimals.{decimal_are_digits}
+use Rattle.ap_desc.proofs.ShownTokens.{left, right}
 
 -- a printing byte that is neither a blank nor the comment sign
 abbrev pub is_plain : ℕ → Bool
@@ -35,7 +34,7 @@ pub both : {a b : Bool} → a ≡ true → b ≡ true → (a && b) ≡ true
 both {a} {b} p q = rw (p, q) refl
 
 -- each byte that passes one test passes the other
-weaker : (p q : ℕ → Bool) → ((b : ℕ) → p b ≡ true → q b ≡ true) → (bytes : List ℕ) → list_all p bytes ≡ true → list_all q bytes ≡ true
+pub weaker : (p q : ℕ → Bool) → ((b : ℕ) → p b ≡ true → q b ≡ true) → (bytes : List ℕ) → list_all p bytes ≡ true → list_all q bytes ≡ true
 weaker p q w [] h = refl
 weaker p q w (b ∷ bytes) h = both (w b (left (p b) (list_all p bytes) h)) (weaker p q w bytes (right (p b) (list_all p bytes) h))
 

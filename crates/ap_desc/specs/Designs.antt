@@ -1,5 +1,5 @@
 -- What holds of the design that a description without fault describes, and which words an instruction matches.
-use Rattle.std.specs.Prelude.{◌≡◌, ℕ, ◌+◌, ◌-◌, ◌*◌, ◌/◌, ◌%◌, ◌^◌, ◌<◌, ◌≤◌, ◌&&◌, nat_le, nat_lt, Bool, true, false, IsTrue, List, [], ◌∷◌, ◌++◌, length, map, sum_by, bit_and, codes, Option, Some, None, slice_get, IsSomeAnd, IfSome, if◌then◌else◌}
+use Rattle.std.specs.Prelude.{◌≡◌, ℕ, ◌+◌, ◌-◌, ◌*◌, ◌/◌, ◌%◌, ◌^◌, ◌<◌, ◌&&◌, nat_le, nat_lt, Bool, IsTrue, List, [], ◌∷◌, ◌++◌, length, map, sum_by, bit_and, codes, Option, Some, None, slice_get, IsSomeAnd, IfSome, if◌then◌else◌}
 use Rattle.std.specs.List.{AllByRecursion as Each, list_all, list_any, flat_map, filter_map, zip}
 use Rattle.std.specs.Option.{option_map_or}
 use Rattle.std.specs.Str.{bytes_eq}

@@ -23,8 +23,17 @@ smallest =
 -- the design of the smallest description
 abbrev pub smallest_design : Design
 smallest_design = record {
-  stages = 2; address = 4; word = 8; branch = 1; slots = 0; transfer_line = 4;
-  regs = []; files = []; mems = []; inputs = []; units = [];
+  stages = 2;
+  address = 4;
+  word = 8;
+  branch = 1;
+  slots = 0;
+  transfer_line = 4;
+  regs = [];
+  files = [];
+  mems = [];
+  inputs = [];
+  units = [];
   formats = record { name = codes "R"; line = 5; fields = record { name = codes "op"; width = 8; low = 0 } ∷ [] } ∷ [];
   instrs = record { name = codes "NOP"; line = 6; format = 0; fixed = Some 0 ∷ []; fixed_mask = 255; fixed_value = 0; locals = []; micros = [] } ∷ [];
 }
@@ -45,22 +54,42 @@ adder_micros =
 -- instr ADD R op=1 fn=0
 abbrev pub adder_instr : Instr
 adder_instr = record {
-  name = codes "ADD"; line = 10; format = 0; fixed = Some 1 ∷ None ∷ None ∷ None ∷ Some 0 ∷ []; fixed_mask = 0xf007; fixed_value = 0x1000;
-  locals = 16 ∷ 16 ∷ 16 ∷ []; micros = adder_micros;
+  name = codes "ADD";
+  line = 10;
+  format = 0;
+  fixed = Some 1 ∷ None ∷ None ∷ None ∷ Some 0 ∷ [];
+  fixed_mask = 0xf007;
+  fixed_value = 0x1000;
+  locals = 16 ∷ 16 ∷ 16 ∷ [];
+  micros = adder_micros;
 }
 
 -- instr NOP R op=0 rd=0 rs=0 rt=0 fn=0
 abbrev pub adder_nop : Instr
 adder_nop = record {
-  name = codes "NOP"; line = 8; format = 0; fixed = Some 0 ∷ Some 0 ∷ Some 0 ∷ Some 0 ∷ Some 0 ∷ []; fixed_mask = 0xffff; fixed_value = 0;
-  locals = []; micros = [];
+  name = codes "NOP";
+  line = 8;
+  format = 0;
+  fixed = Some 0 ∷ Some 0 ∷ Some 0 ∷ Some 0 ∷ Some 0 ∷ [];
+  fixed_mask = 0xffff;
+  fixed_value = 0;
+  locals = [];
+  micros = [];
 }
 
 -- four stages, a file of eight cells of 16 bits, one arithmetic unit, and the two instructions
 abbrev pub adder_design : Design
 adder_design = record {
-  stages = 4; address = 6; word = 16; branch = 2; slots = 1; transfer_line = 4;
-  regs = []; files = record { name = codes "GPR"; width = 16; cells = 8; reads = 2; writes = 1 } ∷ []; mems = []; inputs = [];
+  stages = 4;
+  address = 6;
+  word = 16;
+  branch = 2;
+  slots = 1;
+  transfer_line = 4;
+  regs = [];
+  files = record { name = codes "GPR"; width = 16; cells = 8; reads = 2; writes = 1 } ∷ [];
+  mems = [];
+  inputs = [];
   units = record { name = codes "ALU"; kind = 0; width = 16; latency = 1 } ∷ [];
   formats = record { name = codes "R"; line = 7; fields = adder_fields } ∷ [];
   instrs = adder_nop ∷ adder_instr ∷ [];

@@ -2,21 +2,32 @@ ghost use Rattle.std.specs.Prelude.{◌≡◌, ◌++◌, map, codes, IfOk, IsTru
 ghost use Rattle.std.specs.List.{flat_map};
 ghost use Rattle.std.specs.String.{string_bytes};
 ghost use Rattle.ap_desc.specs.Groups.{Assigns, IsOfInstructions, IsWiring};
-ghost use Rattle.ap_desc.specs.Shown.{after_space, shown_line, shown_text};
+ghost use Rattle.ap_desc.specs.Reading.{ReadsAs};
+ghost use Rattle.ap_desc.specs.Shown.{after_space, renumbered, shown_line, shown_text};
 ghost use Rattle.ap_desc.specs.Spelling.{guard_tokens, value_token, width_token};
 
-use crate::description::Description;
+use crate::description::{Description, Numbered};
 use crate::statement::{FieldNumber, Statement, Word};
 use ap_bits::NoMemory;
 use std::alloc::Global;
 
 /// The text of a description: one space between tokens, two spaces before a micro-operation, numbers in decimal, no
-/// comments, and a line feed at the end of each line.
+/// comments, and a line feed at the end of each line. It reads as the statements of `d` at the lines 1, 2 and so on.
 pub fn show(alloc: Global, d: &Description) -> Result<Vec<u8>, NoMemory>
-    ensures { IfOk result (λ text. text.items ≡ shown_text d.now) }
+    ensures text { IfOk result (λ text. text.items ≡ shown_text d.now) }
+    ensures reads { IfOk result (λ text. ReadsAs text.items (renumbered 1 d.now)) }
+{
+    d.rules();
+    let text = text_of(alloc, d.statements())?;
+    Ok(text)
+}
+
+/// The lines of statements, one after another.
+fn text_of(alloc: Global, statements: &[Numbered]) -> Result<Vec<u8>, NoMemory>
+    ensures { IfOk result (λ text. text.items ≡ shown_text statements.now) }
 {
     let mut text = Vec::new(alloc);
-    for numbered in d.statements() {
+    for numbered in statements {
         let line = line_of(alloc, &numbered.statement)?;
         text.extend_from_slice(line.as_bytes())?;
     }

@@ -1,4 +1,4 @@
-use Rattle.std.proofs.Common.{append_assoc, append-nil, rules, arith}
+use Rattle.std.proofs.Common.{append_assoc, rules}
 use Rattle.ap_desc.proofs.writing.line_of.Goals as goal
 
 pub returns-in_ok-format-in-File : goal.returns-in_ok-format-in-File
