@@ -1,10 +1,8 @@
-ghost use Rattle.std.specs.Prelude.{◌≡◌, ◌==◌, ◌++◌, ◌∷◌, [], length, OnOk, OnErr};
+ghost use Rattle.std.specs.Prelude.{length};
 ghost use Rattle.ap_bits.specs.Cards.{IsLeastPower, select_width};
 
 use crate::term::Term;
-use crate::{Name, NoMemory};
-use std::alloc::Global;
-use std::marker::Model;
+use crate::{Items, Name};
 
 /// Which widths a resource has.
 #[derive(Clone, Copy, Debug, PartialEq, Eq)]
@@ -33,73 +31,13 @@ pub struct OpCard {
     pub term: Term,
 }
 
-/// The operations of a resource in the order of their numbers.
-#[derive(Drop)]
-pub struct OpList {
-    ops: Vec<OpCard>,
-}
-
-impl Model for OpList {
-    ghost use Rattle.std.specs.Prelude.{List};
-    ghost use Rattle.std.specs.Coded.{coded_list};
-    ghost use Rattle.ap_bits.specs.declared.card.OpCard.{OpCard};
-    ghost use Rattle.ap_bits.specs.contracts.card.OpCard as op;
-
-    ghost Value = { List OpCard };
-
-    ghost coded = { coded_list op.the_row.coded };
-
-    ghost view = { λ a. a.ops.items };
-}
-
-impl OpList {
-    /// No operations.
-    pub fn new(alloc: Global) -> Self
-        ensures { result ≡ [] }
-    {
-        OpList {
-            ops: Vec::new(alloc),
-        }
-    }
-
-    /// Adds an operation at the end. Without memory for it the list stays.
-    pub fn push(&mut self, op: OpCard) -> Result<(), NoMemory>
-        ensures ok { OnOk result (self.new ≡ self.old ++ op ∷ []) }
-        ensures err { OnErr result (self.new ≡ self.old) }
-    {
-        self.ops.push(op)?;
-        Ok(())
-    }
-
-    /// How many there are.
-    pub fn len(&self) -> usize
-        ensures { result ≡ length self.now }
-    {
-        self.ops.len()
-    }
-
-    /// Whether there are none.
-    pub fn is_empty(&self) -> bool
-        ensures { result ≡ (length self.now == 0) }
-    {
-        self.ops.is_empty()
-    }
-
-    /// The operations in a slice.
-    pub fn as_slice(&self) -> &[OpCard]
-        ensures { result.now ≡ self.now }
-    {
-        self.ops.as_slice()
-    }
-}
-
 /// What is promised of a resource: its name, its operations, its widths and its latency.
 #[derive(Drop)]
 pub struct Card {
     /// The name of its kind.
     pub name: Name,
     /// Its operations, numbered from 0.
-    pub ops: OpList,
+    pub ops: Items<OpCard>,
     /// The widths that it can have.
     pub widths: Widths,
     /// How long it takes.

@@ -8,6 +8,7 @@
 
 pub mod boxed;
 pub mod card;
+pub mod items;
 pub mod memory;
 pub mod name;
 pub mod term;
@@ -15,7 +16,8 @@ pub mod value;
 pub mod words;
 
 pub use boxed::Boxed;
-pub use card::{Card, Latency, OpCard, OpList, Widths, select_width_is_least};
+pub use card::{Card, Latency, OpCard, Widths, select_width_is_least};
+pub use items::Items;
 pub use memory::NoMemory;
 pub use name::Name;
 pub use term::{BinOp, Term, UnOp};

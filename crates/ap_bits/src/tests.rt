@@ -1,6 +1,6 @@
 //! The calls on a few of the worked rows.
 use crate::{
-    BinOp, Boxed, Card, Latency, Name, NoMemory, OpCard, OpList, Term, UnOp, Widths, eval, mask,
+    BinOp, Boxed, Card, Items, Latency, Name, NoMemory, OpCard, Term, UnOp, Widths, eval, mask,
     sext,
 };
 use std::alloc::Global;
@@ -105,7 +105,7 @@ fn extends(rt: HostRuntime) {
 #[test]
 fn keeps_cards(rt: HostRuntime) -> Result<(), Fail> {
     let alloc = rt.alloc();
-    let mut ops = OpList::new(alloc);
+    let mut ops = Items::new(alloc);
     assert!(rt; ops.is_empty());
     let term = mean(alloc)?;
     let name = Name::new(alloc, b"avg")?;

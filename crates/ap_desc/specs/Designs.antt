@@ -1,6 +1,6 @@
 -- What holds of the design that a description without fault describes, and which words an instruction matches.
 use Rattle.std.specs.Prelude.{◌≡◌, ℕ, ◌+◌, ◌-◌, ◌*◌, ◌/◌, ◌%◌, ◌^◌, ◌<◌, ◌&&◌, nat_le, nat_lt, Bool, IsTrue, List, [], ◌∷◌, ◌++◌, length, map, sum_by, bit_and, codes, Option, Some, None, slice_get, IsSomeAnd, IfSome, if◌then◌else◌}
-use Rattle.std.specs.List.{AllByRecursion as Each, list_all, list_any, flat_map, filter_map, zip}
+use Rattle.std.specs.List.{list_all, list_any, flat_map, filter_map, zip}
 use Rattle.std.specs.Option.{option_map_or}
 use Rattle.std.specs.Str.{bytes_eq}
 use Rattle.ap_desc.specs.declared.design.Design.{Design}
@@ -17,7 +17,6 @@ use Rattle.ap_desc.specs.declared.design.Arg.{Arg}
 use Rattle.ap_desc.specs.declared.design.Arg.TheVariants as arg
 use Rattle.ap_desc.specs.declared.design.Act.{Act}
 use Rattle.ap_desc.specs.declared.design.Act.TheVariants as act
-use Rattle.ap_desc.specs.Reserved.{is_free_name}
 
 -- the word has the fixed value in the bits of the mask
 abbrev pub Matches : Instr → ℕ → Type 0

@@ -1,7 +1,7 @@
 ghost use Rattle.std.specs.Prelude.{◌≡◌};
 
-use crate::items::Items;
 use crate::statement::Statement;
+use ap_bits::Items;
 use std::marker::Model;
 
 /// A statement and the number of its line in the text, counted from 1.

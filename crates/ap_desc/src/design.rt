@@ -1,5 +1,4 @@
-use crate::items::Items;
-use ap_bits::Name;
+use ap_bits::{Items, Name};
 
 /// What a description without fault describes. Widths are in bits; lines are those of the description's text. Parts are
 /// named by their places in the lists, counted from 0.

@@ -9,13 +9,11 @@
 pub mod description;
 pub mod design;
 pub mod fault;
-pub mod items;
 pub mod statement;
 pub mod writing;
 
 pub use description::{Description, Numbered};
 pub use fault::{DescFault, Fault, Refusal};
-pub use items::Items;
 pub use statement::{FieldNumber, Statement, Word};
 pub use writing::show;
 

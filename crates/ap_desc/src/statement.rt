@@ -1,8 +1,7 @@
 ghost use Rattle.std.specs.Prelude.{◌≡◌};
 ghost use Rattle.ap_desc.specs.Spelling.{word_text};
 
-use crate::items::Items;
-use ap_bits::Name;
+use ap_bits::{Items, Name};
 
 /// An operand of a micro-operation.
 #[derive(Drop)]

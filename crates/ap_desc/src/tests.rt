@@ -3,8 +3,8 @@ ghost use Rattle.ap_bits.specs.Names.{IsName};
 ghost use Rattle.ap_desc.specs.Examples.{smallest, smallest_header};
 
 use crate::writing::line_of;
-use crate::{Description, Fault, FieldNumber, Items, Numbered, Statement, Word, show};
-use ap_bits::{Name, NoMemory};
+use crate::{Description, Fault, FieldNumber, Numbered, Statement, Word, show};
+use ap_bits::{Items, Name, NoMemory};
 use std::alloc::Global;
 use std::process::Abort;
 use std::test::Fail;
