@@ -1,5 +1,6 @@
 pub mod Decimals
 pub mod NotSpelled
 pub mod PlainTokens
+pub mod Said
 pub mod ShownLines
 pub mod ShownTokens

@@ -10,6 +10,7 @@ pub mod description;
 pub mod design;
 pub mod fault;
 pub mod items;
+pub mod laws;
 pub mod statement;
 pub mod writing;
 
