@@ -1,5 +1,5 @@
-use Rattle.std.proofs.Common.{◌≡◌, ℕ, ◌<◌, ◌^◌, List, [], ◌∷◌, ◌++◌, ◌&&◌, not, Bool, true, false, Option, Some, None, drop, map, refl, sym, ap, ◌∙◌, arith, append_assoc}
-use Rattle.std.specs.Prelude.{codes, nat_lt, ◌==◌}
+use Rattle.std.proofs.Common.{◌≡◌, ℕ, List, [], ◌∷◌, ◌++◌, not, Bool, true, false, Option, Some, None, drop, map, refl, sym, ap, ◌∙◌, arith, append_assoc}
+use Rattle.std.specs.Prelude.{codes, ◌==◌}
 use Rattle.std.specs.Bool.{if◌then◌else◌}
 use Rattle.std.specs.Char.{is_ascii_alphanumeric}
 use Rattle.std.specs.Fmt.{decimal}
@@ -15,7 +15,7 @@ use Rattle.ap_desc.specs.declared.statement.Statement.{Statement}
 use Rattle.ap_desc.specs.declared.statement.Statement.TheVariants as s
 use Rattle.ap_desc.specs.Beside.{EachBeside}
 use Rattle.ap_desc.specs.Reserved.{is_free_name}
-use Rattle.ap_desc.specs.Spelling.{Token, exactly, tagged, number, operand, part_of, width_token, value_token, guard_tokens, guard_names, field_names, word_names, word_text, names_of, assigned, IsToken, IsSpellable, Spells, is_small, spelling}
+use Rattle.ap_desc.specs.Spelling.{Token, exactly, number, operand, part_of, width_token, value_token, guard_tokens, guard_names, field_names, word_names, word_text, IsToken, Spells}
 use Rattle.ap_desc.proofs.Decimals.{number_value-decimal}
 use Rattle.ap_desc.proofs.PlainTokens.{name_letters, one_free, split_first, split_joined, digit_below, weaker}
 use Rattle.ap_desc.proofs.ShownTokens.{left, right}
@@ -57,6 +57,7 @@ fields_in c (token ∷ tokens) = field_in (cut_on c token) (fields_in c tokens)
 abbrev with_fields : Option (List FieldNumber) → (List FieldNumber → Statement) → Option Statement
 with_fields None f = None
 with_fields (Some fields) f = Some (f fields)
+
 abbrev said_stages : List (List ℕ) → Option Statement
 said_stages (n ∷ []) = with_number (number_value n) (λ n. Some (s.Stages n))
 said_stages _ = None

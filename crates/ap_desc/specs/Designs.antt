@@ -1,5 +1,5 @@
 -- What holds of the design that a description without fault describes, and which words an instruction matches.
-use Rattle.std.specs.Prelude.{◌≡◌, ℕ, ◌+◌, ◌-◌, ◌*◌, ◌/◌, ◌%◌, ◌^◌, ◌<◌, ◌&&◌, nat_le, nat_lt, Bool, IsTrue, List, [], ◌∷◌, ◌++◌, length, map, sum_by, bit_and, codes, Option, Some, None, slice_get, IsSomeAnd, IfSome, if◌then◌else◌}
+use Rattle.std.specs.Prelude.{◌≡◌, ℕ, ◌+◌, ◌-◌, ◌*◌, ◌/◌, ◌%◌, ◌^◌, ◌<◌, ◌&&◌, nat_le, nat_lt, Bool, true, IsTrue, List, [], ◌∷◌, ◌++◌, length, map, sum_by, bit_and, codes, Option, Some, None, slice_get, IsSomeAnd, IfSome, if◌then◌else◌}
 use Rattle.std.specs.List.{AllByRecursion as Each, list_all, list_any, flat_map, filter_map, zip}
 use Rattle.std.specs.Option.{option_map_or}
 use Rattle.std.specs.Str.{bytes_eq}
@@ -201,3 +201,32 @@ pub record IsSound (design : Design) : Type 0 where
   pub lines : Rise 0 (lines_in design)
   pub formats : Each (λ (f : Format). ArePlaced f.fields) design.formats
   pub instrs : Each (IsRight design) design.instrs
+
+-- each fixed value fits its field
+abbrev pub fits_field : Field × Option ℕ → Bool
+fits_field (field, value) = option_map_or (λ v. nat_lt v (2 ^ field.width)) value true
+
+abbrev pub AreFixedFitting : Design → Instr → Type 0
+AreFixedFitting design instr = IsSomeAnd (slice_get design.formats instr.format) (λ format. IsTrue (list_all fits_field (zip format.fields instr.fixed)))
+
+-- no word of so many bits matches both instructions
+abbrev pub ShareNoWord : ℕ → Instr → Instr → Type 0
+ShareNoWord bits one other = (word : ℕ) → word < 2 ^ bits → Matches one word → Matches other word → ⊥
+
+-- nor any two of these
+abbrev pub AreApart : ℕ → List Instr → Type 0
+AreApart bits [] = Unit {0}
+AreApart bits (instr ∷ instrs) = Each (ShareNoWord bits instr) instrs × AreApart bits instrs
+
+-- the instruction NOP does nothing
+abbrev pub IsEmptyNop : Instr → Type 0
+IsEmptyNop instr = IsTrue (is_named_nop instr) → instr.micros ≡ []
+
+-- the design is clean: it is sound, its formats fill the word, its fixed values fit, no two instructions share a word, and NOP is
+-- empty. That no fault of ports and stages holds of its lines is to be added here with what judges them
+pub record IsClean (design : Design) : Type 0 where
+  pub sound : IsSound design
+  pub sums : Each (λ (f : Format). sum_by (λ (x : Field). x.width) f.fields ≡ design.word) design.formats
+  pub fixed : Each (AreFixedFitting design) design.instrs
+  pub words : AreApart design.word design.instrs
+  pub nop : Each IsEmptyNop design.instrs
