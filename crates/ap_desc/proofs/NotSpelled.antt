@@ -4,8 +4,13 @@ use Rattle.std.specs.Str.{bytes_eq}
 use Rattle.ap_text.specs.Numbers.{number_value, spelled_value}
 use Rattle.ap_desc.specs.declared.statement.Statement.{Statement}
 use Rattle.ap_desc.specs.declared.statement.Statement.TheVariants as s
+use Rattle.std.specs.List.{list_all}
+use Rattle.ap_text.specs.Lines.{TextLine}
 use Rattle.ap_desc.specs.Beside.{EachBeside}
-use Rattle.ap_desc.specs.Spelling.{IsToken, spelling, number}
+use Rattle.ap_desc.specs.Faults.{SaysNothing}
+use Rattle.ap_desc.specs.Reserved.{is_free_name}
+use Rattle.ap_desc.proofs.Said.{said, said_spelled}
+use Rattle.ap_desc.specs.Spelling.{IsToken, spelling, number, is_formed, names_of}
 
 -- two texts that a test tells apart aren't one
 apart : (a b : List ℕ) → bytes_eq a a ≡ true → bytes_eq a b ≡ false → a ≡ b → ⊥
@@ -45,3 +50,25 @@ no_stages (s.WriteMemory a b c d e) token none h = no_number a (codes "stages") 
 no_stages (s.Branch a b c) token none h = no_number a (codes "stages") refl h.0
 no_stages (s.Jump a b) token none h = no_number a (codes "stages") refl h.0
 no_stages s.End token none h = apart (codes "stages") (codes "end") refl refl h.0
+
+-- tokens that no form has
+pub says_none : (line : TextLine) → said line.tokens ≡ None → SaysNothing line
+says_none line none statement h = let e : Some statement ≡ None = sym (said_spelled statement line.tokens h.spells) ∙ none in cc
+
+-- tokens of a form in which a name is reserved or none
+pub says_bad_name : (line : TextLine) (meant : Statement) → said line.tokens ≡ Some meant → list_all is_free_name (names_of meant) ≡ false → SaysNothing line
+says_bad_name line meant says bad statement h =
+    let e : Some meant ≡ Some statement = sym says ∙ said_spelled statement line.tokens h.spells in
+    let same : meant ≡ statement = cc in
+    let wrong : true ≡ false = sym h.spells.spellable.names ∙ sym (ap (λ s. list_all is_free_name (names_of s)) same) ∙ bad in cc
+
+-- tokens of a form that isn't right: a port of two digits, a format without fields
+pub says_bad_form : (line : TextLine) (meant : Statement) → said line.tokens ≡ Some meant → is_formed meant ≡ false → SaysNothing line
+says_bad_form line meant says bad statement h =
+    let e : Some meant ≡ Some statement = sym says ∙ said_spelled statement line.tokens h.spells in
+    let same : meant ≡ statement = cc in
+    let wrong : true ≡ false = sym h.spells.spellable.formed ∙ sym (ap is_formed same) ∙ bad in cc
+
+-- a line with a bad byte
+pub says_unclean : (line : TextLine) → line.clean ≡ false → SaysNothing line
+says_unclean line bad statement h = let wrong : true ≡ false = sym h.clean ∙ bad in cc

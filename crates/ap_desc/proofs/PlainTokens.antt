@@ -59,11 +59,14 @@ free_is_name name h = left (is_name name) (not (is_among name statement_words))
     (left (is_name name && not (is_among name statement_words)) (not (is_among name micro_words))
     (left (is_name name && not (is_among name statement_words) && not (is_among name micro_words)) (not (is_among name memory_words)) h))
 
--- the bytes of a name
+-- the bytes of a name are letters and digits
+pub name_letters : (name : List ℕ) → is_free_name name ≡ true → list_all is_ascii_alphanumeric name ≡ true
+name_letters name h =
+    right (starts_with_letter name) (list_all is_ascii_alphanumeric name)
+    (left (starts_with_letter name && list_all is_ascii_alphanumeric name) (nat_le (length name) 32) (free_is_name name h))
+
 name_bytes : (name : List ℕ) → is_free_name name ≡ true → list_all is_plain name ≡ true
-name_bytes name h =
-    let front = left (starts_with_letter name && list_all is_ascii_alphanumeric name) (nat_le (length name) 32) (free_is_name name h) in
-    weaker is_ascii_alphanumeric is_plain letter_is_plain name (right (starts_with_letter name) (list_all is_ascii_alphanumeric name) front)
+name_bytes name h = weaker is_ascii_alphanumeric is_plain letter_is_plain name (name_letters name h)
 
 name_is_token : (name : List ℕ) → is_free_name name ≡ true → is_token name ≡ true
 name_is_token name h =
@@ -82,13 +85,13 @@ plain_part name part h g = both
     (begun_token (name ++ codes ".") part (begun_token name (codes ".") (name_is_token name h)))
     (joined_plain (name ++ codes ".") part (joined_plain name (codes ".") (name_bytes name h) refl) g)
 
-digit_below : (n : ℕ) → nat_lt n 10 ≡ true → n < 2 ^ 64
+pub digit_below : (n : ℕ) → nat_lt n 10 ≡ true → n < 2 ^ 64
 digit_below n h = grind (arith, nat_tests)
 
 plain_port : (port : ℕ) → nat_lt port 10 ≡ true → list_all is_plain (decimal port) ≡ true
 plain_port port h = decimal_plain port (digit_below port h)
 
-one_free : (name : List ℕ) → list_all is_free_name (name ∷ []) ≡ true → is_free_name name ≡ true
+pub one_free : (name : List ℕ) → list_all is_free_name (name ∷ []) ≡ true → is_free_name name ≡ true
 one_free name h = left (is_free_name name) true h
 
 plain_word : (word : Word) → list_all is_free_name (word_names word) ≡ true → has_plain_text (operand word) ≡ true
@@ -111,10 +114,10 @@ plain_values (f ∷ fields) h = both (joined_plain f.field (codes "=") (name_byt
     (plain_values fields (right (is_free_name f.field) (list_all is_free_name (field_names fields)) h))
 
 -- a first name and the others
-split_first : (name : List ℕ) (names : List (List ℕ)) → list_all is_free_name (name ∷ names) ≡ true → (is_free_name name ≡ true) × (list_all is_free_name names ≡ true)
+pub split_first : (name : List ℕ) (names : List (List ℕ)) → list_all is_free_name (name ∷ names) ≡ true → (is_free_name name ≡ true) × (list_all is_free_name names ≡ true)
 split_first name names h = (left (is_free_name name) (list_all is_free_name names) h, right (is_free_name name) (list_all is_free_name names) h)
 
-split_joined : (xs ys : List (List ℕ)) → list_all is_free_name (xs ++ ys) ≡ true → (list_all is_free_name xs ≡ true) × (list_all is_free_name ys ≡ true)
+pub split_joined : (xs ys : List (List ℕ)) → list_all is_free_name (xs ++ ys) ≡ true → (list_all is_free_name xs ≡ true) × (list_all is_free_name ys ≡ true)
 split_joined xs ys h =
     let e : (list_all is_free_name xs && list_all is_free_name ys) ≡ true = sym (list_all-append is_free_name xs ys) ∙ h in
     (left (list_all is_free_name xs) (list_all is_free_name ys) e, right (list_all is_free_name xs) (list_all is_free_name ys) e)

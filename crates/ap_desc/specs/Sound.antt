@@ -1,6 +1,7 @@
--- Designs that are sound: what their lines name is there, names differ, and every operand has the width that is needed.
-use Rattle.std.specs.Prelude.{ℕ, ◌+◌, ◌^◌, ◌==◌, ◌&&◌, nat_le, nat_lt, not, Bool, true, IsTrue, List, [], ◌∷◌, ◌++◌, map, Option, slice_get, IsSomeAnd}
-use Rattle.std.specs.List.{AllByRecursion as Each, list_all, list_any}
+-- Designs that are sound: what their lines name is there, names differ, and every operand has the width that is needed. Designs
+-- whose words are without fault.
+use Rattle.std.specs.Prelude.{◌≡◌, ℕ, ◌+◌, ◌^◌, ◌<◌, ◌==◌, ◌&&◌, nat_le, nat_lt, not, Bool, true, IsTrue, List, [], ◌∷◌, ◌++◌, map, sum_by, Option, slice_get, IsSomeAnd}
+use Rattle.std.specs.List.{AllByRecursion as Each, list_all, list_any, zip}
 use Rattle.std.specs.Option.{option_map_or}
 use Rattle.std.specs.Str.{bytes_eq}
 use Rattle.ap_desc.specs.declared.design.Design.{Design}
@@ -17,7 +18,7 @@ use Rattle.ap_desc.specs.declared.design.Arg.{Arg}
 use Rattle.ap_desc.specs.declared.design.Act.{Act}
 use Rattle.ap_desc.specs.declared.design.Act.TheVariants as act
 use Rattle.ap_desc.specs.Reserved.{is_free_name}
-use Rattle.ap_desc.specs.Designs.{IsWithin, names_in, lines_in, is_named_nop, Rise, ArePlaced, IsRight, width_at, arg_width}
+use Rattle.ap_desc.specs.Designs.{Matches, IsWithin, names_in, lines_in, is_named_nop, Rise, ArePlaced, IsRight, width_at, arg_width}
 
 -- no name stands twice
 abbrev pub are_distinct : List (List ℕ) → Bool
@@ -97,3 +98,31 @@ pub record IsSound (design : Design) : Type 0 where
   pub formats : Each (λ (f : Format). ArePlaced f.fields) design.formats
   pub instrs : Each (IsRight design) design.instrs
   pub typed : Each (IsTyped design) design.instrs
+
+-- each fixed value fits its field
+abbrev pub fits_field : Field × Option ℕ → Bool
+fits_field (field, value) = option_map_or (λ v. nat_lt v (2 ^ field.width)) value true
+
+abbrev pub AreFixedFitting : Design → Instr → Type 0
+AreFixedFitting design instr = IsSomeAnd (slice_get design.formats instr.format) (λ format. IsTrue (list_all fits_field (zip format.fields instr.fixed)))
+
+-- no word of so many bits matches both instructions
+abbrev pub ShareNoWord : ℕ → Instr → Instr → Type 0
+ShareNoWord bits one other = (word : ℕ) → word < 2 ^ bits → Matches one word → Matches other word → ⊥
+
+-- nor any two of these
+abbrev pub AreApart : ℕ → List Instr → Type 0
+AreApart bits [] = Unit {0}
+AreApart bits (instr ∷ instrs) = Each (ShareNoWord bits instr) instrs × AreApart bits instrs
+
+-- the instruction NOP does nothing
+abbrev pub IsEmptyNop : Instr → Type 0
+IsEmptyNop instr = IsTrue (is_named_nop instr) → instr.micros ≡ []
+
+-- the words of the design's instructions are without fault: formats fill the word, fixed values fit, no two instructions share a
+-- word, and NOP is empty
+pub record IsEncoded (design : Design) : Type 0 where
+  pub sums : Each (λ (f : Format). sum_by (λ (x : Field). x.width) f.fields ≡ design.word) design.formats
+  pub fixed : Each (AreFixedFitting design) design.instrs
+  pub words : AreApart design.word design.instrs
+  pub nop : Each IsEmptyNop design.instrs

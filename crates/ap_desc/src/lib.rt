@@ -9,6 +9,7 @@
 pub mod description;
 pub mod design;
 pub mod fault;
+pub mod laws;
 pub mod statement;
 pub mod writing;
 

@@ -1,10 +1,10 @@
 //! Worked rows: what the definitions say of example lines and small texts, and what the calls write.
 ghost use Rattle.std.specs.Prelude.{◌≡◌, [], ◌∷◌, ◌++◌, map, codes, Some, None, false};
-ghost use Rattle.ap_text.specs.Lines.{lines_of, tokens_of};
+ghost use Rattle.ap_text.specs.Lines.{lines_of, text_line, tokens_of};
 ghost use Rattle.ap_desc.specs.Descriptions.{IsDescription};
 ghost use Rattle.ap_desc.specs.Designs.{Matches, field_value};
-ghost use Rattle.ap_desc.specs.Sound.{IsSound};
-ghost use Rattle.ap_desc.specs.Faults.{HasFault, is_missing_some};
+ghost use Rattle.ap_desc.specs.Faults.{HasFault, SaysNothing, is_missing_some};
+ghost use Rattle.ap_desc.specs.Sound.{IsEncoded, IsSound};
 ghost use Rattle.ap_desc.specs.Reading.{ReadsAs};
 ghost use Rattle.ap_desc.specs.Examples.{smallest, smallest_design, adder_design, adder_fields, adder_instr};
 ghost use Rattle.ap_desc.specs.declared.design.Field.{Field};
@@ -76,10 +76,11 @@ fn smallest_description()
     ensures description { IsDescription smallest }
 {}
 
-/// Designs that are sound.
+/// Designs that are sound, and one whose words are without fault.
 fn sound_designs()
     ensures smallest { IsSound smallest_design }
     ensures adder { IsSound adder_design }
+    ensures encoded { IsEncoded smallest_design }
 {}
 
 /// The word of an addition of cells 1 and 1 into cell 2 matches it, and NOP's and another operation's don't.
@@ -88,4 +89,19 @@ fn matching_words()
     ensures nop { Matches adder_instr 0 → ⊥ }
     ensures other_operation { Matches adder_instr 0x1449 → ⊥ }
     ensures operands { map (λ (f : Field). field_value f 0x1448) adder_fields ≡ 1 ∷ 2 ∷ 1 ∷ 1 ∷ 0 ∷ [] }
+{}
+
+/// Lines that say nothing: a byte that isn't allowed, no form, a word of the language as a name, a number that is none.
+fn says_nothing()
+    ensures carriage_return { SaysNothing (text_line 1 (codes "end\r")) }
+    ensures two_ends { SaysNothing (text_line 1 (codes "end end")) }
+    ensures no_register { SaysNothing (text_line 1 (codes "1 x = pc")) }
+    ensures reserved { SaysNothing (text_line 1 (codes "reg in 8 0")) }
+    ensures reserved_kind { SaysNothing (text_line 1 (codes "unit U data 8")) }
+    ensures begins_with_digit { SaysNothing (text_line 1 (codes "mem 1M 8 8")) }
+    ensures no_field { SaysNothing (text_line 1 (codes "format R")) }
+    ensures no_width { SaysNothing (text_line 1 (codes "format R op:")) }
+    ensures two_digits { SaysNothing (text_line 1 (codes "1 a = F.r10 i")) }
+    ensures upper_prefix { SaysNothing (text_line 1 (codes "word 0X8")) }
+    ensures too_large { SaysNothing (text_line 1 (codes "word 18446744073709551616")) }
 {}
