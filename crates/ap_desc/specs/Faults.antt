@@ -82,7 +82,7 @@ IsFaultless text = (kind : Fault) (number : ℕ) → HasFault text kind number �
 -- one fault comes before another: by phase, then by line, then by number
 abbrev pub IsBefore : Fault → ℕ → Fault → ℕ → Type 0
 IsBefore kind line other other_line = (phase_of kind < phase_of other)
-    ⊎ (phase_of kind ≡ phase_of other) × ((line < other_line) ⊎ (line ≡ other_line) × (number_of kind < number_of other))
+    ⊎ ((phase_of kind ≡ phase_of other) × ((line < other_line) ⊎ ((line ≡ other_line) × (number_of kind < number_of other))))
 
 -- the refusal names the least fault of the text
 pub record IsLeastFault (text : List ℕ) (refusal : Refusal) : Type 0 where

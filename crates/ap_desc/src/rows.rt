@@ -3,7 +3,7 @@ ghost use Rattle.std.specs.Prelude.{◌≡◌, [], ◌∷◌, ◌++◌, map, cod
 ghost use Rattle.ap_text.specs.Lines.{lines_of, text_line, tokens_of};
 ghost use Rattle.ap_desc.specs.Descriptions.{IsDescription};
 ghost use Rattle.ap_desc.specs.Designs.{Matches, field_value};
-ghost use Rattle.ap_desc.specs.Faults.{HasFault, SaysNothing, is_missing_some};
+ghost use Rattle.ap_desc.specs.Faults.{HasFault, IsBefore, SaysNothing, is_missing_some};
 ghost use Rattle.ap_desc.specs.Sound.{IsEncoded, IsSound};
 ghost use Rattle.ap_desc.specs.Reading.{ReadsAs};
 ghost use Rattle.ap_desc.specs.Examples.{smallest, smallest_design, adder_design, adder_fields, adder_instr};
@@ -104,4 +104,13 @@ fn says_nothing()
     ensures two_digits { SaysNothing (text_line 1 (codes "1 a = F.r10 i")) }
     ensures upper_prefix { SaysNothing (text_line 1 (codes "word 0X8")) }
     ensures too_large { SaysNothing (text_line 1 (codes "word 18446744073709551616")) }
+{}
+
+/// The order of faults: the phase decides before the line, and the line before the number.
+fn order_of_faults()
+    ensures phase { IsBefore Fault.BadLine 9 Fault.Unknown 1 }
+    ensures line { IsBefore Fault.Missing 0 Fault.BadLine 1 }
+    ensures number { IsBefore Fault.BadLine 2 Fault.TooMany 2 }
+    ensures later_phase { IsBefore Fault.Range 5 Fault.Unknown 6 → ⊥ }
+    ensures itself { IsBefore Fault.BadOrder 2 Fault.BadOrder 2 → ⊥ }
 {}
