@@ -1,6 +1,11 @@
 -- Two example descriptions, on which the other definitions are worked out: the smallest one, of two stages and the instruction
 -- NOP alone, and one of four stages that adds two cells of a file.
 use Rattle.std.specs.Prelude.{List, [], ◌∷◌, ◌++◌, codes, Some, None}
+use Rattle.ap_bits.specs.declared.card.Card.{Card}
+use Rattle.ap_bits.specs.declared.card.Latency.TheVariants.{One}
+use Rattle.ap_bits.specs.declared.card.Widths.TheVariants.{Any}
+use Rattle.ap_bits.specs.declared.term.BinOp.TheVariants as two
+use Rattle.ap_bits.specs.declared.term.Term.{Bin, A, B}
 use Rattle.ap_desc.specs.declared.description.Numbered.{Numbered}
 use Rattle.ap_desc.specs.declared.statement.Statement.TheVariants as s
 use Rattle.ap_desc.specs.declared.design.Design.{Design}
@@ -94,3 +99,7 @@ adder_design = record {
   formats = record { name = codes "R"; line = 7; fields = adder_fields } ∷ [];
   instrs = adder_nop ∷ adder_instr ∷ [];
 }
+
+-- the card of a kind that adds
+abbrev pub adder_card : Card
+adder_card = record { name = codes "alu"; ops = record { name = codes "add"; term = Bin two.Add A B } ∷ []; widths = Any; latency = One }

@@ -8,6 +8,7 @@ pub mod Groups
 pub mod Order
 pub mod Reading
 pub mod Reserved
+pub mod Shelf
 pub mod Shown
 pub mod Sound
 pub mod Spelling

@@ -4,9 +4,10 @@ ghost use Rattle.ap_text.specs.Lines.{lines_of, text_line, tokens_of};
 ghost use Rattle.ap_desc.specs.Descriptions.{IsDescription};
 ghost use Rattle.ap_desc.specs.Designs.{Matches, field_value};
 ghost use Rattle.ap_desc.specs.Faults.{HasFault, IsBefore, SaysNothing, is_missing_some};
+ghost use Rattle.ap_desc.specs.Shelf.{IsOfCards};
 ghost use Rattle.ap_desc.specs.Sound.{IsEncoded, IsSound};
 ghost use Rattle.ap_desc.specs.Reading.{ReadsAs};
-ghost use Rattle.ap_desc.specs.Examples.{smallest, smallest_design, adder_design, adder_fields, adder_instr};
+ghost use Rattle.ap_desc.specs.Examples.{smallest, smallest_design, adder_card, adder_design, adder_fields, adder_instr};
 ghost use Rattle.ap_desc.specs.declared.design.Field.{Field};
 ghost use Rattle.ap_desc.specs.Spelling.{Spells};
 
@@ -81,6 +82,12 @@ fn sound_designs()
     ensures smallest { IsSound smallest_design }
     ensures adder { IsSound adder_design }
     ensures encoded { IsEncoded smallest_design }
+{}
+
+/// The four stages' one unit is of the card of a kind that adds, and of no card of an empty shelf.
+fn cards_of_designs()
+    ensures adder { IsOfCards adder_design (adder_card ∷ []) }
+    ensures empty { IsOfCards adder_design [] → ⊥ }
 {}
 
 /// The word of an addition of cells 1 and 1 into cell 2 matches it, and NOP's and another operation's don't.
