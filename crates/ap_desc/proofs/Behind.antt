@@ -1,12 +1,13 @@
 -- Tests of all lines from which an operand may come within a stage: what passes them holds of each line that the definitions name.
 use Rattle.std.proofs.Common.{◌≡◌, ℕ, zero, suc, ◌<◌, ◌≤◌, Bool, true, false, List, [], ◌∷◌, ◌++◌, Some, None, ap, sym, subst, refl, ◌∙◌}
-use Rattle.std.specs.Prelude.{◌==◌, ◌&&◌, ◌||◌, not, IsTrue, Any, Contains, Option}
+use Rattle.std.specs.Prelude.{◌&&◌, ◌||◌, not, nat_le, IsTrue, Any, Contains, Option}
 use Rattle.std.specs.List.{AllByRecursion as Each, list_all}
 use Rattle.std.specs.Option.{option_map_or}
-use Rattle.std.proofs.lemmas.Bool.{and_parts, or_cases, eq-eqb}
+use Rattle.std.proofs.lemmas.Bool.{and_parts, both_ways}
 use Rattle.std.proofs.lemmas.List.Elements.{All-contains}
 use Rattle.std.proofs.lemmas.List.Sums.{AllPass-from_list_all}
-use Rattle.ap_desc.specs.Chains.{ComesFrom, Edge, maker_in, operands_of, is_wiring, node_of}
+use Rattle.ap_desc.proofs.Loops.{rising_without_loop, looped_more}
+use Rattle.ap_desc.specs.Chains.{ComesFrom, Edge, IsLooped, maker_in, operands_of, is_wiring, node_of}
 use Rattle.ap_desc.specs.StageFaults.{HasUnstableOperand, is_slow, is_unstable}
 use Rattle.ap_desc.specs.declared.design.Design.{Design}
 use Rattle.ap_desc.specs.declared.design.Instr.{Instr}
@@ -77,3 +78,9 @@ stable_operands depth design e line u =
     let stable : test source ≡ true = behind_passes (λ m. true) test u.instr u.micro.stage depth a through source behind (each_true through) comes in
     let wrong : false ≡ true = rw unstable at stable in
     absurd cc
+
+-- a stage in which no node feeds another has no loop
+pub unlooped : (design : Design) → ((stage : ℕ) (from to : Node) → Edge design stage (λ n. true) from to → false ≡ true) → (stage line : ℕ) → IsLooped design stage (λ n. nat_le n line) → ⊥
+unlooped design none stage line h =
+    rising_without_loop (Edge design stage (λ n. true)) (λ x. 0) (λ x y e. absurd (both_ways false refl (none stage x y e)))
+        (looped_more design stage (λ n. nat_le n line) (λ n. true) (λ n e. refl) h)

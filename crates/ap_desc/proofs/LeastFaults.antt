@@ -4,6 +4,8 @@ use Rattle.std.proofs.lemmas.Bool.{cases_lt, cases_order}
 use Rattle.ap_desc.specs.FaultTable.{phase_of, number_of}
 use Rattle.ap_desc.specs.Faults.{IsBefore}
 use Rattle.ap_desc.specs.Least.{IsFound, IsLeast, IsLookedAtBefore}
+use Rattle.ap_desc.specs.Clean.{HasDesignFault}
+use Rattle.ap_desc.specs.declared.design.Design.{Design}
 use Rattle.ap_desc.specs.declared.fault.Fault.{Fault}
 use Rattle.ap_desc.specs.declared.fault.Fault.TheVariants as f
 use Rattle.ap_desc.specs.declared.fault.Refusal.{Refusal}
@@ -136,3 +138,29 @@ least_is_one Holds one other l m =
       | inr (inl below) ↦ absurd (m.least one.kind one.line l.holds (inr (phases, inr (lines, below))))
       | inr (inr above) ↦ absurd (l.least other.kind other.line m.holds (inr (sym phases, inr (sym lines, above)))) ] in
     same_refusal one other (l.phase ∙ phases ∙ sym m.phase) lines (same_kind one.kind other.kind phases numbers)
+
+-- no fault comes before itself, nor before one of an earlier phase
+pub not_before_itself : (kind : Fault) (line other : ℕ) → other ≡ line → IsBefore kind line kind other → ⊥
+not_before_itself kind line other here (inl below) = omega arith
+not_before_itself kind line other here (inr (same, inl above)) = omega arith
+not_before_itself kind line other here (inr (same, inr (equal, lower))) = omega arith
+
+pub not_before_earlier : (kind : Fault) (line : ℕ) (other : Fault) (at : ℕ) → phase_of other < phase_of kind → IsBefore kind line other at → ⊥
+not_before_earlier kind line other at later (inl below) = omega arith
+not_before_earlier kind line other at later (inr (same, rest)) = omega arith
+
+-- the faults of a design are of the fourth phase or a later one
+pub design_phase : (design : Design) (kind : Fault) (line : ℕ) → HasDesignFault design kind line → 3 < phase_of kind
+design_phase design f.FormatSum line h = lit< tt
+design_phase design f.FieldValue line h = lit< tt
+design_phase design f.Overlap line h = lit< tt
+design_phase design f.NopNotEmpty line h = lit< tt
+design_phase design f.TwiceInInstruction line h = lit< tt
+design_phase design f.TwoStages line h = lit< tt
+design_phase design f.StageZero line h = lit< tt
+design_phase design f.StageOrder line h = lit< tt
+design_phase design f.EarlyCommit line h = lit< tt
+design_phase design f.ChainLoop line h = lit< tt
+design_phase design f.UnstableOperand line h = lit< tt
+design_phase design f.TooManySlots line h = lit< tt
+design_phase design _ line h = absurd h

@@ -1,6 +1,7 @@
 pub mod Apart
 pub mod Behind
 pub mod Decimals
+pub mod Encoded
 pub mod LeastFaults
 pub mod LineTests
 pub mod Loops

@@ -1,6 +1,6 @@
 -- Two example descriptions, on which the other definitions are worked out: the smallest one, of two stages and the instruction
 -- NOP alone, and one of four stages that adds two cells of a file.
-use Rattle.std.specs.Prelude.{List, [], ◌∷◌, ◌++◌, map, codes, Some, None}
+use Rattle.std.specs.Prelude.{ℕ, List, [], ◌∷◌, ◌++◌, map, codes, Some, None}
 use Rattle.ap_bits.specs.declared.card.Card.{Card}
 use Rattle.ap_bits.specs.declared.card.Latency.TheVariants.{One}
 use Rattle.ap_bits.specs.declared.card.Widths.TheVariants.{Any}
@@ -26,6 +26,13 @@ abbrev pub smallest : List Numbered
 smallest =
     smallest_header ++ record { line = 5; statement = s.Format (codes "R") (record { field = codes "op"; number = 8 } ∷ []) }
     ∷ record { line = 6; statement = s.Instr (codes "NOP") (codes "R") (record { field = codes "op"; number = 0 } ∷ []) } ∷ record { line = 7; statement = s.End } ∷ []
+
+-- the same with this width of the word, these slots, this width of the field and this value of it, and these lines of NOP
+abbrev pub smallest_but : ℕ → ℕ → ℕ → ℕ → List Numbered → List Numbered
+smallest_but word slots width value lines =
+    record { line = 1; statement = s.Stages 2 } ∷ record { line = 2; statement = s.Address 4 } ∷ record { line = 3; statement = s.Word word }
+    ∷ record { line = 4; statement = s.Transfer 1 slots } ∷ record { line = 5; statement = s.Format (codes "R") (record { field = codes "op"; number = width } ∷ []) }
+    ∷ record { line = 6; statement = s.Instr (codes "NOP") (codes "R") (record { field = codes "op"; number = value } ∷ []) } ∷ lines ++ record { line = 8; statement = s.End } ∷ []
 
 -- the design of the smallest description
 abbrev pub smallest_design : Design

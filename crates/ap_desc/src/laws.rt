@@ -46,3 +46,9 @@ pub fn loops_and_orders()
     ensures order { (design : Design) (stage : ℕ) (order : List Node) → IsChainOrder design stage order → IsLooped design stage (λ n. true) → ⊥ }
     ensures line { (design : Design) (stage line other : ℕ) → ClosesLoop design stage line → ClosesLoop design stage other → line ≡ other }
 {}
+
+/// The words of a clean design are without fault.
+#[tactic(auto, using(crate::proofs::Encoded::encoded_if_clean))]
+pub fn clean_is_encoded()
+    ensures { (design : Design) → IsClean design → IsEncoded design }
+{}

@@ -19,6 +19,8 @@ pub use statement::{FieldNumber, Statement, Word};
 pub use writing::show;
 
 #[cfg(test)]
+mod description_rows;
+#[cfg(test)]
 mod flow_rows;
 #[cfg(test)]
 mod meaning_rows;
