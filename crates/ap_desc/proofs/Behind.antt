@@ -1,13 +1,13 @@
 -- Tests of all lines from which an operand may come within a stage: what passes them holds of each line that the definitions name.
-use Rattle.std.proofs.Common.{◌≡◌, ℕ, zero, suc, ◌<◌, ◌≤◌, Bool, true, false, List, [], ◌∷◌, ◌++◌, Some, None, ap, sym, subst, refl, ◌∙◌}
-use Rattle.std.specs.Prelude.{◌&&◌, ◌||◌, not, nat_le, IsTrue, Any, Contains, Option}
+use Rattle.std.proofs.Common.{◌≡◌, ℕ, zero, suc, ◌<◌, ◌≤◌, Bool, true, false, List, [], ◌∷◌, ◌++◌, Some, None, ap, sym, subst, refl, ◌∙◌, arith}
+use Rattle.std.specs.Prelude.{◌&&◌, ◌||◌, not, nat_le, nat_lt, IsTrue, Any, Contains, Option}
 use Rattle.std.specs.List.{AllByRecursion as Each, list_all}
 use Rattle.std.specs.Option.{option_map_or}
-use Rattle.std.proofs.lemmas.Bool.{and_parts, both_ways}
+use Rattle.std.proofs.lemmas.Bool.{and_parts, leb-true, lt-ltb, ltb-true}
 use Rattle.std.proofs.lemmas.List.Elements.{All-contains}
 use Rattle.std.proofs.lemmas.List.Sums.{AllPass-from_list_all}
 use Rattle.ap_desc.proofs.Loops.{rising_without_loop, looped_more}
-use Rattle.ap_desc.specs.Chains.{ComesFrom, Edge, IsLooped, maker_in, operands_of, is_wiring, node_of}
+use Rattle.ap_desc.specs.Chains.{ClosesLoop, ComesFrom, Edge, IsLooped, maker_in, operands_of, is_wiring, node_of}
 use Rattle.ap_desc.specs.StageFaults.{HasUnstableOperand, is_slow, is_unstable}
 use Rattle.ap_desc.specs.declared.design.Design.{Design}
 use Rattle.ap_desc.specs.declared.design.Instr.{Instr}
@@ -63,24 +63,38 @@ edge_passes depth counts test design e stage from to edge =
     let source_passes : node_test edge.source ≡ true = behind_passes (λ m. is_wiring m.act) node_test edge.instr edge.user.stage depth a through edge.source behind wired (subst (λ s. ComesFrom edge.instr s a through edge.source) (sym edge.in_stage) comes) in
     rw edge.uses_from at source_passes
 
--- no operand of a slow unit reaches what may change
-abbrev pub operands_stable : ℕ → Design → Bool
-operands_stable depth design = list_all (λ (i : Instr). list_all (λ (m : Micro). not (is_slow design m.act) || list_all (all_behind depth (λ m. true) (λ (m : Micro). not (is_unstable design m.act)) i m.stage) (operands_of m.act)) i.micros) design.instrs
+-- of the lines that count, no operand of a slow unit reaches what may change
+abbrev pub operands_stable : ℕ → (ℕ → Bool) → Design → Bool
+operands_stable depth counts design = list_all (λ (i : Instr). list_all (λ (m : Micro). not (counts m.line) || (not (is_slow design m.act) || list_all (all_behind depth (λ m. true) (λ (m : Micro). not (is_unstable design m.act)) i m.stage) (operands_of m.act))) i.micros) design.instrs
 
-pub stable_operands : (depth : ℕ) (design : Design) → operands_stable depth design ≡ true → (line : ℕ) → HasUnstableOperand design line → ⊥
-stable_operands depth design e line u =
+pub stable_operands : (depth : ℕ) (counts : ℕ → Bool) (design : Design) → operands_stable depth counts design ≡ true → (line : ℕ) → counts line ≡ true → HasUnstableOperand design line → ⊥
+stable_operands depth counts design e line counted u =
     let test = λ (m : Micro). not (is_unstable design m.act) in
-    let of_instr = contained_passes (λ (i : Instr). list_all (λ (m : Micro). not (is_slow design m.act) || list_all (all_behind depth (λ m. true) test i m.stage) (operands_of m.act)) i.micros) design.instrs u.instr e u.is_instr in
-    let of_line = contained_passes (λ (m : Micro). not (is_slow design m.act) || list_all (all_behind depth (λ m. true) test u.instr m.stage) (operands_of m.act)) u.instr.micros u.micro of_instr u.is_line in
-    let slow = rw u.slow at of_line in
+    let of_instr = contained_passes (λ (i : Instr). list_all (λ (m : Micro). not (counts m.line) || (not (is_slow design m.act) || list_all (all_behind depth (λ m. true) test i m.stage) (operands_of m.act))) i.micros) design.instrs u.instr e u.is_instr in
+    let of_line = contained_passes (λ (m : Micro). not (counts m.line) || (not (is_slow design m.act) || list_all (all_behind depth (λ m. true) test u.instr m.stage) (operands_of m.act))) u.instr.micros u.micro of_instr u.is_line in
+    let here : counts u.micro.line ≡ true = ap counts u.at ∙ counted in
+    let slow = rw u.slow at (rw here at of_line) in
     let (k, a, low, at, (source, (through, comes), unstable)) = u.unstable in
     let behind = contained_passes (all_behind depth (λ m. true) test u.instr u.micro.stage) (operands_of u.micro.act) a slow (k, low, at) in
     let stable : test source ≡ true = behind_passes (λ m. true) test u.instr u.micro.stage depth a through source behind (each_true through) comes in
     let wrong : false ≡ true = rw unstable at stable in
     absurd cc
 
--- a stage in which no node feeds another has no loop
-pub unlooped : (design : Design) → ((stage : ℕ) (from to : Node) → Edge design stage (λ n. true) from to → false ≡ true) → (stage line : ℕ) → IsLooped design stage (λ n. nat_le n line) → ⊥
-unlooped design none stage line h =
-    rising_without_loop (Edge design stage (λ n. true)) (λ x. 0) (λ x y e. absurd (both_ways false refl (none stage x y e)))
-        (looped_more design stage (λ n. nat_le n line) (λ n. true) (λ n e. refl) h)
+-- the edge raises the rank
+abbrev pub rises : (Node → ℕ) → Node → Node → Bool
+rises rank from to = nat_lt (rank from) (rank to)
+
+-- where each edge raises the rank no stage has a loop
+pub unlooped : (depth : ℕ) (counts : ℕ → Bool) (rank : Node → ℕ) (design : Design) → edges_pass depth counts (rises rank) design ≡ true → (stage : ℕ) → IsLooped design stage counts → ⊥
+unlooped depth counts rank design e stage =
+    rising_without_loop (Edge design stage counts) rank (λ from to edge. ltb-true (rank from) (rank to) (edge_passes depth counts (rises rank) design e stage from to edge))
+
+-- nor does a line close one
+pub none_closes : (depth : ℕ) (rank : Node → ℕ) (design : Design) → edges_pass depth (λ n. true) (rises rank) design ≡ true → (line : ℕ) → ((stage : ℕ) × ClosesLoop design stage line) → ⊥
+none_closes depth rank design e line (stage, closes) = unlooped depth (λ n. true) rank design e stage (looped_more design stage (λ n. nat_le n line) (λ n. true) (λ n h. refl) closes.closed)
+
+-- nor does one before a line, where the edges of the lines before it raise the rank
+pub none_closes_before : (depth : ℕ) (end : ℕ) (rank : Node → ℕ) (design : Design) → edges_pass depth (λ n. nat_lt n end) (rises rank) design ≡ true → (line : ℕ) → line < end → ((stage : ℕ) × ClosesLoop design stage line) → ⊥
+none_closes_before depth end rank design e line below (stage, closes) =
+    unlooped depth (λ n. nat_lt n end) rank design e stage
+        (looped_more design stage (λ n. nat_le n line) (λ n. nat_lt n end) (λ n h. let up : n ≤ line = leb-true n line h in lt-ltb n end (omega arith)) closes.closed)

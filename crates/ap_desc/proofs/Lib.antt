@@ -2,6 +2,7 @@ pub mod Apart
 pub mod Behind
 pub mod Decimals
 pub mod Encoded
+pub mod FlowFacts
 pub mod LeastFaults
 pub mod LineTests
 pub mod Loops

@@ -1,10 +1,12 @@
 //! Worked rows: what the definitions say of faults of words, ports and stages, each of a design that has the fault and of one like it
 //! that hasn't.
-ghost use Rattle.std.specs.Prelude.{◌≡◌, ℕ, [], ◌∷◌, true};
-ghost use Rattle.ap_desc.specs.Chains.{Edge, IsChainOrder, IsLooped};
-ghost use Rattle.ap_desc.specs.Clean.{FitsCards, HasDesignFault, IsClean};
-ghost use Rattle.ap_desc.specs.Examples.{adder_card, adder_design, adder_instr, smallest_design};
+ghost use Rattle.std.specs.Prelude.{ℕ, [], ◌∷◌};
+ghost use Rattle.ap_desc.specs.Chains.{IsChainOrder};
+ghost use Rattle.ap_desc.specs.Clean.{HasDesignFault};
+ghost use Rattle.ap_desc.specs.Examples.{adder_design, adder_instr, smallest_design};
 ghost use Rattle.ap_desc.specs.FlowExamples.{flow_design, long_design, one_jump, one_sum, one_write, other_pattern, smallest_with, times_input, times_memory, two_steps, two_units, wide_pattern};
+ghost use Rattle.ap_desc.specs.Least.{HoldsNowhere};
+ghost use Rattle.ap_desc.specs.Meaning.{IsLeastPortFault, MeetsPortFault};
 ghost use Rattle.ap_desc.specs.declared.design.Act.TheVariants as act;
 ghost use Rattle.ap_desc.specs.declared.design.Node.TheVariants as node;
 
@@ -64,4 +66,14 @@ fn slow_operands()
     ensures input { HasDesignFault (flow_design (times_input 2 ∷ [])) Fault.UnstableOperand 23 }
     ensures input_right { (line : ℕ) → HasDesignFault (flow_design (times_input 1 ∷ [])) Fault.UnstableOperand line → ⊥ }
     ensures memory { HasDesignFault (flow_design (times_memory ∷ [])) Fault.UnstableOperand 25 }
+{}
+
+/// The least faults of ports and stages of such designs.
+fn least_faults()
+    ensures twice { IsLeastPortFault (flow_design (adder_instr ∷ two_steps 0 ∷ [])) (record { phase = 5; line = 23; kind = Fault.TwiceInInstruction }) }
+    ensures stages { IsLeastPortFault (flow_design (adder_instr ∷ one_sum 1 ∷ [])) (record { phase = 5; line = 22; kind = Fault.TwoStages }) }
+    ensures commit { IsLeastPortFault (long_design (one_write 1 ∷ [])) (record { phase = 6; line = 22; kind = Fault.EarlyCommit }) }
+    ensures loop_closed { IsLeastPortFault (flow_design (two_units 30 0 1 ∷ two_units 40 1 0 ∷ [])) (record { phase = 6; line = 46; kind = Fault.ChainLoop }) }
+    ensures input { IsLeastPortFault (flow_design (times_input 2 ∷ [])) (record { phase = 6; line = 23; kind = Fault.UnstableOperand }) }
+    ensures none { HoldsNowhere (MeetsPortFault (flow_design (adder_instr ∷ two_units 30 0 1 ∷ []))) }
 {}

@@ -2,7 +2,7 @@ use Rattle.std.proofs.Common.{◌≡◌, ℕ, ◌<◌, ◌⊎◌, refl, List, []
 use Rattle.std.specs.Prelude.{codes, ◌==◌, ◌||◌, nat_lt, Contains}
 use Rattle.std.proofs.lemmas.Bool.{both_ways, eqb-true, lt-ltb, or_cases}
 use Rattle.ap_desc.proofs.Apart.{no_word_shared}
-use Rattle.ap_desc.proofs.Behind.{edge_passes, stable_operands, unlooped}
+use Rattle.ap_desc.proofs.Behind.{none_closes, stable_operands}
 use Rattle.ap_desc.proofs.LeastFaults.{design_phase, found_from_least, not_before_earlier, not_before_itself}
 use Rattle.ap_desc.proofs.LineTests.{clear_of, name_kinds, no_line_fault, width_kinds}
 use Rattle.ap_desc.specs.Clean.{HasDesignFault}
@@ -78,8 +78,8 @@ many_slots = smallest_but 8 2 8 0 []
 many_slots_first : (kind : Fault) (line : ℕ) → IsBefore kind line f.TooManySlots 4 → HasDesignFault (design_of many_slots []) kind line → ⊥
 many_slots_first f.TooManySlots line before h = not_before_itself f.TooManySlots line 4 (eqb-true 4 line h) before
 many_slots_first f.Overlap line before h = no_word_shared (design_of many_slots []) refl line h
-many_slots_first f.ChainLoop line before (stage, h) = unlooped (design_of many_slots []) (edge_passes 8 (λ n. true) (λ x y. false) (design_of many_slots []) refl) stage line h.closed
-many_slots_first f.UnstableOperand line before h = stable_operands 8 (design_of many_slots []) refl line h
+many_slots_first f.ChainLoop line before h = none_closes 8 (λ n. 0) (design_of many_slots []) refl line h
+many_slots_first f.UnstableOperand line before h = stable_operands 8 (λ n. true) (design_of many_slots []) refl line refl h
 many_slots_first _ line before h = search (rules, both_ways)
 
 many_slots_least : (kind : Fault) (line : ℕ) → MeetsFault many_slots [] kind line → IsBefore kind line f.TooManySlots 4 → ⊥
@@ -101,8 +101,8 @@ narrow_field = smallest_but 8 0 7 0 []
 narrow_field_first : (kind : Fault) (line : ℕ) → IsBefore kind line f.FormatSum 5 → HasDesignFault (design_of narrow_field []) kind line → ⊥
 narrow_field_first f.FormatSum line before h = not_before_itself f.FormatSum line 5 (at_line 5 line h) before
 narrow_field_first f.Overlap line before h = no_word_shared (design_of narrow_field []) refl line h
-narrow_field_first f.ChainLoop line before (stage, h) = unlooped (design_of narrow_field []) (edge_passes 8 (λ n. true) (λ x y. false) (design_of narrow_field []) refl) stage line h.closed
-narrow_field_first f.UnstableOperand line before h = stable_operands 8 (design_of narrow_field []) refl line h
+narrow_field_first f.ChainLoop line before h = none_closes 8 (λ n. 0) (design_of narrow_field []) refl line h
+narrow_field_first f.UnstableOperand line before h = stable_operands 8 (λ n. true) (design_of narrow_field []) refl line refl h
 narrow_field_first _ line before h = search (rules, both_ways)
 
 narrow_field_least : (kind : Fault) (line : ℕ) → MeetsFault narrow_field [] kind line → IsBefore kind line f.FormatSum 5 → ⊥
@@ -118,8 +118,8 @@ wide_value = smallest_but 8 0 8 256 []
 wide_value_first : (kind : Fault) (line : ℕ) → IsBefore kind line f.FieldValue 6 → HasDesignFault (design_of wide_value []) kind line → ⊥
 wide_value_first f.FieldValue line before h = not_before_itself f.FieldValue line 6 (at_line 6 line h) before
 wide_value_first f.Overlap line before h = no_word_shared (design_of wide_value []) refl line h
-wide_value_first f.ChainLoop line before (stage, h) = unlooped (design_of wide_value []) (edge_passes 8 (λ n. true) (λ x y. false) (design_of wide_value []) refl) stage line h.closed
-wide_value_first f.UnstableOperand line before h = stable_operands 8 (design_of wide_value []) refl line h
+wide_value_first f.ChainLoop line before h = none_closes 8 (λ n. 0) (design_of wide_value []) refl line h
+wide_value_first f.UnstableOperand line before h = stable_operands 8 (λ n. true) (design_of wide_value []) refl line refl h
 wide_value_first _ line before h = search (rules, both_ways)
 
 wide_value_least : (kind : Fault) (line : ℕ) → MeetsFault wide_value [] kind line → IsBefore kind line f.FieldValue 6 → ⊥
@@ -135,8 +135,8 @@ full_nop = smallest_but 8 0 8 0 (record { line = 7; statement = s.Const 1 (codes
 full_nop_first : (kind : Fault) (line : ℕ) → IsBefore kind line f.NopNotEmpty 6 → HasDesignFault (design_of full_nop []) kind line → ⊥
 full_nop_first f.NopNotEmpty line before h = not_before_itself f.NopNotEmpty line 6 (at_line 6 line h) before
 full_nop_first f.Overlap line before h = no_word_shared (design_of full_nop []) refl line h
-full_nop_first f.ChainLoop line before (stage, h) = unlooped (design_of full_nop []) (edge_passes 8 (λ n. true) (λ x y. false) (design_of full_nop []) refl) stage line h.closed
-full_nop_first f.UnstableOperand line before h = stable_operands 8 (design_of full_nop []) refl line h
+full_nop_first f.ChainLoop line before h = none_closes 8 (λ n. 0) (design_of full_nop []) refl line h
+full_nop_first f.UnstableOperand line before h = stable_operands 8 (λ n. true) (design_of full_nop []) refl line refl h
 full_nop_first _ line before h = search (rules, both_ways)
 
 full_nop_least : (kind : Fault) (line : ℕ) → MeetsFault full_nop [] kind line → IsBefore kind line f.NopNotEmpty 6 → ⊥

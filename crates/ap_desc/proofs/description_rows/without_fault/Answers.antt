@@ -2,7 +2,7 @@ use Rattle.std.proofs.Common.{◌≡◌, ℕ, refl, [], ◌∷◌, true, false, 
 use Rattle.std.proofs.lemmas.Bool.{both_ways}
 use Rattle.std.specs.Prelude.{nat_le, codes}
 use Rattle.ap_desc.proofs.Apart.{no_word_shared}
-use Rattle.ap_desc.proofs.Behind.{edge_passes, stable_operands, unlooped}
+use Rattle.ap_desc.proofs.Behind.{none_closes, stable_operands}
 use Rattle.ap_desc.proofs.LineTests.{no_line_fault}
 use Rattle.ap_desc.specs.Clean.{HasDesignFault}
 use Rattle.ap_desc.specs.Examples.{adder_card, adder_design, adder_statements, smallest, smallest_design}
@@ -14,14 +14,14 @@ use Rattle.ap_desc.proofs.description_rows.without_fault.Goals as goal
 
 smallest_clean : (kind : Fault) (line : ℕ) → HasDesignFault smallest_design kind line → ⊥
 smallest_clean f.Overlap line h = no_word_shared smallest_design refl line h
-smallest_clean f.ChainLoop line (stage, h) = unlooped smallest_design (edge_passes 8 (λ n. true) (λ x y. false) smallest_design refl) stage line h.closed
-smallest_clean f.UnstableOperand line h = stable_operands 8 smallest_design refl line h
+smallest_clean f.ChainLoop line h = none_closes 8 (λ n. 0) smallest_design refl line h
+smallest_clean f.UnstableOperand line h = stable_operands 8 (λ n. true) smallest_design refl line refl h
 smallest_clean _ line h = search (rules, both_ways)
 
 adder_clean : (kind : Fault) (line : ℕ) → HasDesignFault adder_design kind line → ⊥
 adder_clean f.Overlap line h = no_word_shared adder_design refl line h
-adder_clean f.ChainLoop line (stage, h) = unlooped adder_design (edge_passes 8 (λ n. true) (λ x y. false) adder_design refl) stage line h.closed
-adder_clean f.UnstableOperand line h = stable_operands 8 adder_design refl line h
+adder_clean f.ChainLoop line h = none_closes 8 (λ n. 0) adder_design refl line h
+adder_clean f.UnstableOperand line h = stable_operands 8 (λ n. true) adder_design refl line refl h
 adder_clean _ line h = search (rules, both_ways)
 
 pub returns-clause-smallest : goal.returns-clause-smallest

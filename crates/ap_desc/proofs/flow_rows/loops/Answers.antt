@@ -2,8 +2,8 @@ use Rattle.std.proofs.Common.{◌≡◌, ℕ, zero, suc, ◌+◌, ◌<◌, refl,
 use Rattle.std.specs.Prelude.{◌==◌, ◌&&◌, ◌||◌, not, nat_lt, nat_le, Bool, List, Contains, Any, IsTrue, Option, slice_get}
 use Rattle.std.specs.Option.{option_map_or}
 use Rattle.std.proofs.lemmas.Bool.{ltb-true, and_parts, or_cases, eqb-true, eq-eqb}
-use Rattle.ap_desc.proofs.Behind.{contained_passes, edge_passes, edges_pass}
-use Rattle.ap_desc.proofs.Loops.{rising_without_loop, looped_more}
+use Rattle.ap_desc.proofs.Behind.{contained_passes, edge_passes, none_closes, unlooped}
+use Rattle.ap_desc.proofs.FlowFacts.{both_closes, rank}
 use Rattle.ap_desc.specs.Chains.{Edge, IsLooped, IsNodeOf, node_of}
 use Rattle.ap_desc.specs.FlowExamples.{flow_design, two_units, two_steps}
 use Rattle.ap_desc.specs.Ports.{micros_in}
@@ -15,69 +15,14 @@ use Rattle.ap_desc.specs.declared.design.Node.{Node}
 use Rattle.ap_desc.specs.declared.design.Node.TheVariants as node
 use Rattle.ap_desc.proofs.flow_rows.loops.Goals as goal
 
--- the units in the order of their numbers, and all else before
-abbrev rank : Node → ℕ
-rank (node.Unit u) = u + 1
-rank _ = 0
-
-abbrev rises : Node → Node → Bool
-rises from to = nat_lt (rank from) (rank to)
-
-abbrev both : Design
-both = flow_design (two_units 30 0 1 ∷ two_units 40 1 0 ∷ [])
-
--- in an instruction that uses one unit after the other, its line that uses the second makes an edge
-edge_up : Edge both 2 (λ n. nat_le n 46) (node.Unit 0) (node.Unit 1)
-edge_up = record {
-  instr = two_units 30 0 1;
-  is_instr = (1, lit< tt, refl);
-  user = record { line = 36; stage = 2; act = act.Compute 1 0 (arg.Local 4) (arg.Local 1) };
-  is_line = (5, lit< tt, refl);
-  in_stage = refl;
-  counted = refl;
-  uses = refl;
-  source = record { line = 33; stage = 2; act = act.Compute 0 0 (arg.Local 0) (arg.Local 1) };
-  uses_from = refl;
-  wired = (0, arg.Local 4, lit< tt, refl, (record { line = 35; stage = 2; act = act.Zext 16 (arg.Local 3) } ∷ record { line = 34; stage = 2; act = act.Slice 7 0 (arg.Local 2) } ∷ [],
-      (refl, (refl, tt)), (refl, (0, arg.Local 3, lit< tt, refl, (refl, (0, arg.Local 2, lit< tt, refl, refl))))));
-}
-
-edge_down : Edge both 2 (λ n. nat_le n 46) (node.Unit 1) (node.Unit 0)
-edge_down = record {
-  instr = two_units 40 1 0;
-  is_instr = (2, lit< tt, refl);
-  user = record { line = 46; stage = 2; act = act.Compute 0 0 (arg.Local 4) (arg.Local 1) };
-  is_line = (5, lit< tt, refl);
-  in_stage = refl;
-  counted = refl;
-  uses = refl;
-  source = record { line = 43; stage = 2; act = act.Compute 1 0 (arg.Local 0) (arg.Local 1) };
-  uses_from = refl;
-  wired = (0, arg.Local 4, lit< tt, refl, (record { line = 45; stage = 2; act = act.Zext 16 (arg.Local 3) } ∷ record { line = 44; stage = 2; act = act.Slice 7 0 (arg.Local 2) } ∷ [],
-      (refl, (refl, tt)), (refl, (0, arg.Local 3, lit< tt, refl, (refl, (0, arg.Local 2, lit< tt, refl, refl))))));
-}
-
-open_before : IsLooped both 2 (λ n. nat_lt n 46) → ⊥
-open_before = rising_without_loop (Edge both 2 (λ n. nat_lt n 46)) rank (λ x y e. ltb-true (rank x) (rank y) (edge_passes 8 (λ n. nat_lt n 46) rises both refl 2 x y e))
-
-pub returns-clause-closes : goal.returns-clause-closes
-returns-clause-closes c = (2, record {
-  micro = record { line = 46; stage = 2; act = act.Compute 0 0 (arg.Local 4) (arg.Local 1) };
-  is_line = (12, lit< tt, refl);
-  at = refl;
-  in_stage = refl;
-  closed = (node.Unit 0, node.Unit 1 ∷ [], (edge_up, (edge_down, tt)));
-  open_before = open_before;
-})
-
 abbrev one : Design
 one = flow_design (two_units 30 0 1 ∷ [])
 
-one_open : (stage : ℕ) → IsLooped one stage (λ n. true) → ⊥
-one_open stage = rising_without_loop (Edge one stage (λ n. true)) rank (λ x y e. ltb-true (rank x) (rank y) (edge_passes 8 (λ n. true) rises one refl stage x y e))
+pub returns-clause-closes : goal.returns-clause-closes
+returns-clause-closes c = (2, both_closes)
 
 pub returns-clause-closes_right : goal.returns-clause-closes_right
-returns-clause-closes_right c line (stage, closes) = one_open stage (looped_more one stage (λ n. nat_le n line) (λ n. true) (λ n h. refl) closes.closed)
+returns-clause-closes_right c = none_closes 8 rank one refl
 
 pub returns-clause-own_loop : goal.returns-clause-own_loop
 returns-clause-own_loop c =
@@ -99,8 +44,7 @@ returns-clause-own_loop c =
         uses_from = refl;
         wired = (0, arg.Local 1, lit< tt, refl, ([], tt, refl));
       }, tt));
-      open_before = rising_without_loop (Edge (flow_design (two_steps 0 ∷ [])) 2 (λ n. nat_lt n 23)) rank
-          (λ x y e. ltb-true (rank x) (rank y) (edge_passes 8 (λ n. nat_lt n 23) rises (flow_design (two_steps 0 ∷ [])) refl 2 x y e));
+      open_before = unlooped 8 (λ n. nat_lt n 23) rank (flow_design (two_steps 0 ∷ [])) refl 2;
     })
 
 abbrev is_unit : ℕ → Node → Bool

@@ -1,5 +1,6 @@
-use Rattle.std.proofs.Common.{refl, lit<, [], ◌∷◌}
+use Rattle.std.proofs.Common.{refl, lit<, [], ◌∷◌, true}
 use Rattle.ap_desc.proofs.Behind.{stable_operands}
+use Rattle.ap_desc.proofs.FlowFacts.{input_unstable}
 use Rattle.ap_desc.specs.FlowExamples.{flow_design, times_input, times_memory}
 use Rattle.ap_desc.specs.declared.design.Micro.{Micro}
 use Rattle.ap_desc.specs.declared.design.Arg.TheVariants as arg
@@ -7,18 +8,10 @@ use Rattle.ap_desc.specs.declared.design.Act.TheVariants as act
 use Rattle.ap_desc.proofs.flow_rows.slow_operands.Goals as goal
 
 pub returns-clause-input : goal.returns-clause-input
-returns-clause-input c = record {
-  instr = times_input 2;
-  is_instr = (1, lit< tt, refl);
-  micro = record { line = 23; stage = 2; act = act.Compute 2 0 (arg.Local 0) (arg.Local 1) };
-  is_line = (2, lit< tt, refl);
-  at = refl;
-  slow = refl;
-  unstable = (1, arg.Local 1, lit< tt, refl, (record { line = 22; stage = 2; act = act.ReadIn 0 }, ([], refl), refl));
-}
+returns-clause-input c = input_unstable
 
 pub returns-clause-input_right : goal.returns-clause-input_right
-returns-clause-input_right c = stable_operands 8 (flow_design (times_input 1 ∷ [])) refl
+returns-clause-input_right c = λ line h. stable_operands 8 (λ n. true) (flow_design (times_input 1 ∷ [])) refl line refl h
 
 pub returns-clause-memory : goal.returns-clause-memory
 returns-clause-memory c =
