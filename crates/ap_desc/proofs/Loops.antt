@@ -1,5 +1,5 @@
 -- Walks and loops: where each step raises a rank there is no loop.
-use Rattle.std.proofs.Common.{◌≡◌, ℕ, ◌<◌, Bool, true, List, [], ◌∷◌, ◌++◌, Some, inl, inr, ◌≤◌, arith}
+use Rattle.std.proofs.Common.{◌≡◌, ℕ, ◌<◌, Bool, true, List, [], ◌∷◌, ◌++◌, Some, inl, inr, ◌≤◌, refl, arith}
 use Rattle.std.specs.Prelude.{slice_get, IsTrue, nat_le, nat_lt}
 use Rattle.std.proofs.lemmas.Bool.{cases_order, leb-true, lt-ltb}
 use Rattle.ap_desc.specs.Chains.{IsWalk, HasLoop, IsLooped, Edge, StandsBefore, IsChainOrder, ClosesLoop}
@@ -62,6 +62,9 @@ edge_counts_more design stage counts more up from to e = record {
 
 pub looped_more : (design : Design) (stage : ℕ) (counts more : ℕ → Bool) → ((n : ℕ) → IsTrue (counts n) → IsTrue (more n)) → IsLooped design stage counts → IsLooped design stage more
 looped_more design stage counts more up = loop_maps (Edge design stage counts) (Edge design stage more) (edge_counts_more design stage counts more up)
+
+pub closed_is_looped : (design : Design) (stage line : ℕ) → ClosesLoop design stage line → IsLooped design stage (λ n. true)
+closed_is_looped design stage line c = looped_more design stage (λ n. nat_le n line) (λ n. true) (λ n h. refl) c.closed
 
 -- the line that closes the loop of a stage is one
 closes_no_later : (design : Design) (stage line other : ℕ) → ClosesLoop design stage line → ClosesLoop design stage other → line < other → ⊥

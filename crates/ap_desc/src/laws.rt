@@ -41,9 +41,11 @@ pub fn least_fault_is_looked_at()
     ensures ports { (design : Design) (refusal : Refusal) → IsLeast (MeetsPortFault design) refusal ↔ IsLeastPortFault design refusal }
 {}
 
-/// A stage whose nodes have an order in which every edge goes forward has no loop; where one has, a single line closes it.
+/// A stage whose nodes have an order in which every edge goes forward has no loop. A line that closes a loop leaves the stage with one, and
+/// it is the only such line.
 pub fn loops_and_orders()
     ensures order { (design : Design) (stage : ℕ) (order : List Node) → IsChainOrder design stage order → IsLooped design stage (λ n. true) → ⊥ }
+    ensures closed { (design : Design) (stage line : ℕ) → ClosesLoop design stage line → IsLooped design stage (λ n. true) }
     ensures line { (design : Design) (stage line other : ℕ) → ClosesLoop design stage line → ClosesLoop design stage other → line ≡ other }
 {}
 
