@@ -59,7 +59,7 @@ edge_passes depth counts test design e stage from to edge =
     let (k, a, low, at, (through, wired, comes)) = edge.wired in
     let node_test = λ (m : Micro). option_map_or (λ from. test from to) (node_of m.act) true in
     let behind : all_behind depth (λ m. is_wiring m.act) node_test edge.instr edge.user.stage a ≡ true
-          = contained_passes (all_behind depth (λ m. is_wiring m.act) node_test edge.instr edge.user.stage) (operands_of edge.user.act) a used (k, low, at) in
+    = contained_passes (all_behind depth (λ m. is_wiring m.act) node_test edge.instr edge.user.stage) (operands_of edge.user.act) a used (k, low, at) in
     let source_passes : node_test edge.source ≡ true = behind_passes (λ m. is_wiring m.act) node_test edge.instr edge.user.stage depth a through edge.source behind wired (subst (λ s. ComesFrom edge.instr s a through edge.source) (sym edge.in_stage) comes) in
     rw edge.uses_from at source_passes
 
@@ -97,4 +97,4 @@ none_closes depth rank design e line (stage, closes) = unlooped depth (λ n. tru
 pub none_closes_before : (depth : ℕ) (end : ℕ) (rank : Node → ℕ) (design : Design) → edges_pass depth (λ n. nat_lt n end) (rises rank) design ≡ true → (line : ℕ) → line < end → ((stage : ℕ) × ClosesLoop design stage line) → ⊥
 none_closes_before depth end rank design e line below (stage, closes) =
     unlooped depth (λ n. nat_lt n end) rank design e stage
-        (looped_more design stage (λ n. nat_le n line) (λ n. nat_lt n end) (λ n h. let up : n ≤ line = leb-true n line h in lt-ltb n end (omega arith)) closes.closed)
+    (looped_more design stage (λ n. nat_le n line) (λ n. nat_lt n end) (λ n h. let up : n ≤ line = leb-true n line h in lt-ltb n end (omega arith)) closes.closed)

@@ -18,9 +18,10 @@ use Rattle.ap_desc.specs.declared.fault.Fault.TheVariants as f
 -- where no line has an element that passes, none passes
 none_passes : {X : Type 0} (test : X → Bool) (line_of : X → ℕ) (xs : List X) → ((line : ℕ) → list_any (λ x. test x && (line_of x == line)) xs ≡ true → ⊥) → Each (λ x. test x ≡ false) xs
 none_passes test line_of [] none = tt
-none_passes test line_of (x ∷ xs) none =
-    (false_from_ne_true (test x) (λ h. none (line_of x) (or_left (test x && (line_of x == line_of x)) (list_any (λ y. test y && (line_of y == line_of x)) xs) (and_from (test x) (line_of x == line_of x) h (eq-eqb (line_of x) (line_of x) refl)))),
-     none_passes test line_of xs (λ line h. none line (or_right (test x && (line_of x == line)) (list_any (λ y. test y && (line_of y == line)) xs) h)))
+none_passes test line_of (x ∷ xs) none = (
+  false_from_ne_true (test x) (λ h. none (line_of x) (or_left (test x && (line_of x == line_of x)) (list_any (λ y. test y && (line_of y == line_of x)) xs) (and_from (test x) (line_of x == line_of x) h (eq-eqb (line_of x) (line_of x) refl)))),
+  none_passes test line_of xs (λ line h. none line (or_right (test x && (line_of x == line)) (list_any (λ y. test y && (line_of y == line)) xs) h)),
+)
 
 each_maps : {X : Type 0} (P Q : X → Type 0) → ((x : X) → P x → Q x) → (xs : List X) → Each P xs → Each Q xs
 each_maps P Q up [] h = tt
@@ -51,8 +52,9 @@ empty_lines (m ∷ micros) e = absurd cc
 
 empty_nop : (instr : Instr) → (is_named_nop instr && has_lines instr.micros) ≡ false → IsEmptyNop instr
 empty_nop instr e named = elim (and_cases (is_named_nop instr) (has_lines instr.micros) e) [
-    inl other ↦ absurd (both_ways (is_named_nop instr) other named)
-  | inr none ↦ empty_lines instr.micros none ]
+  | inl other ↦ absurd (both_ways (is_named_nop instr) other named)
+  | inr none ↦ empty_lines instr.micros none
+]
 
 each_at : {X : Type 0} (P : X → Type 0) (xs : List X) → ((i : ℕ) (x : X) → slice_get xs i ≡ Some x → P x) → Each P xs
 each_at P [] all = tt
@@ -60,9 +62,10 @@ each_at P (x ∷ xs) all = (all 0 x refl, each_at P xs (λ i y at. all (suc i) y
 
 apart_from : (bits : ℕ) (xs : List Instr) → ((i j : ℕ) (one other : Instr) → i < j → slice_get xs i ≡ Some one → slice_get xs j ≡ Some other → (word : ℕ) → word < 2 ^ bits → Matches one word → Matches other word → ⊥) → AreApart bits xs
 apart_from bits [] none = tt
-apart_from bits (x ∷ xs) none =
-    (each_at (λ other. (word : ℕ) → word < 2 ^ bits → Matches x word → Matches other word → ⊥) xs (λ j other at. none 0 (suc j) x other (omega arith) refl at),
-     apart_from bits xs (λ i j one other below at again. none (suc i) (suc j) one other (omega arith) at again))
+apart_from bits (x ∷ xs) none = (
+  each_at (λ other. (word : ℕ) → word < 2 ^ bits → Matches x word → Matches other word → ⊥) xs (λ j other at. none 0 (suc j) x other (omega arith) refl at),
+  apart_from bits xs (λ i j one other below at again. none (suc i) (suc j) one other (omega arith) at again),
+)
 
 pub encoded_if_clean : (design : Design) → IsClean design → IsEncoded design
 encoded_if_clean design clean = record {

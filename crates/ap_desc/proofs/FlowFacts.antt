@@ -31,8 +31,17 @@ edge_up = record {
   uses = refl;
   source = record { line = 33; stage = 2; act = act.Compute 0 0 (arg.Local 0) (arg.Local 1) };
   uses_from = refl;
-  wired = (0, arg.Local 4, lit< tt, refl, (record { line = 35; stage = 2; act = act.Zext 16 (arg.Local 3) } ∷ record { line = 34; stage = 2; act = act.Slice 7 0 (arg.Local 2) } ∷ [],
-      (refl, (refl, tt)), (refl, (0, arg.Local 3, lit< tt, refl, (refl, (0, arg.Local 2, lit< tt, refl, refl))))));
+  wired = (
+    0,
+    arg.Local 4,
+    lit< tt,
+    refl,
+    (
+      record { line = 35; stage = 2; act = act.Zext 16 (arg.Local 3) } ∷ record { line = 34; stage = 2; act = act.Slice 7 0 (arg.Local 2) } ∷ [],
+      (refl, (refl, tt)),
+      (refl, (0, arg.Local 3, lit< tt, refl, (refl, (0, arg.Local 2, lit< tt, refl, refl)))),
+    ),
+  );
 }
 
 edge_down : Edge both 2 (λ n. nat_le n 46) (node.Unit 1) (node.Unit 0)
@@ -46,8 +55,17 @@ edge_down = record {
   uses = refl;
   source = record { line = 43; stage = 2; act = act.Compute 1 0 (arg.Local 0) (arg.Local 1) };
   uses_from = refl;
-  wired = (0, arg.Local 4, lit< tt, refl, (record { line = 45; stage = 2; act = act.Zext 16 (arg.Local 3) } ∷ record { line = 44; stage = 2; act = act.Slice 7 0 (arg.Local 2) } ∷ [],
-      (refl, (refl, tt)), (refl, (0, arg.Local 3, lit< tt, refl, (refl, (0, arg.Local 2, lit< tt, refl, refl))))));
+  wired = (
+    0,
+    arg.Local 4,
+    lit< tt,
+    refl,
+    (
+      record { line = 45; stage = 2; act = act.Zext 16 (arg.Local 3) } ∷ record { line = 44; stage = 2; act = act.Slice 7 0 (arg.Local 2) } ∷ [],
+      (refl, (refl, tt)),
+      (refl, (0, arg.Local 3, lit< tt, refl, (refl, (0, arg.Local 2, lit< tt, refl, refl)))),
+    ),
+  );
 }
 
 pub both_closes : ClosesLoop both 2 46

@@ -104,6 +104,7 @@ least_from_found Holds refusal l = record {
   same_first : (kind : Fault) (line : ℕ) → phase_of kind ≡ phase_of refusal.kind → line ≤ refusal.line → (other : Fault) (at : ℕ) → IsLookedAtBefore other at kind line → IsLookedAtBefore other at refusal.kind refusal.line
   same_first kind line same up other at (inl earlier) = inl (omega arith)
   same_first kind line same up other at (inr (late, equal, above)) = inr (omega arith, equal ∙ same, omega arith)
+
   none : (kind : Fault) (line : ℕ) → Holds kind line → IsBefore kind line refusal.kind refusal.line → ⊥
   none kind line h (inl earlier) = l.holds.first kind line (inl earlier) h
   none kind line h (inr (same, inr (here, lower))) =
@@ -112,10 +113,11 @@ least_from_found Holds refusal l = record {
   none kind line h (inr (same, inl above)) =
       let from_1 = phase_from_1 kind in
       elim (cases_lt 1 (phase_of refusal.kind)) [
-          inl late ↦ l.holds.first kind line (inr (late, same, above)) h
+        | inl late ↦ l.holds.first kind line (inr (late, same, above)) h
         | inr first ↦
             let found : IsFound Holds kind line = record { holds = h; first = λ other at before. l.holds.first other at (same_first kind line same (omega arith) other at before) } in
-            l.least kind line found (inr (same, inl above)) ]
+            l.least kind line found (inr (same, inl above))
+      ]
 
 same_kind : (one other : Fault) → phase_of one ≡ phase_of other → number_of one ≡ number_of other → one ≡ other
 same_kind one other phase number = sym (known_kind one) ∙ ap (λ p. kind_at p (number_of one)) phase ∙ ap (kind_at (phase_of other)) number ∙ known_kind other
@@ -126,17 +128,20 @@ same_refusal one other phase line kind = λ i. record { phase = phase i; line = 
 pub least_is_one : (Holds : Fault → ℕ → Type 0) (one other : Refusal) → IsLeast Holds one → IsLeast Holds other → one ≡ other
 least_is_one Holds one other l m =
     let phases : phase_of one.kind ≡ phase_of other.kind = elim (cases_order (phase_of one.kind) (phase_of other.kind)) [
-        inl same ↦ same
+      | inl same ↦ same
       | inr (inl below) ↦ absurd (m.least one.kind one.line l.holds (inl below))
-      | inr (inr above) ↦ absurd (l.least other.kind other.line m.holds (inl above)) ] in
+      | inr (inr above) ↦ absurd (l.least other.kind other.line m.holds (inl above))
+    ] in
     let lines : one.line ≡ other.line = elim (cases_order one.line other.line) [
-        inl same ↦ same
+      | inl same ↦ same
       | inr (inl below) ↦ absurd (m.least one.kind one.line l.holds (inr (phases, inl below)))
-      | inr (inr above) ↦ absurd (l.least other.kind other.line m.holds (inr (sym phases, inl above))) ] in
+      | inr (inr above) ↦ absurd (l.least other.kind other.line m.holds (inr (sym phases, inl above)))
+    ] in
     let numbers : number_of one.kind ≡ number_of other.kind = elim (cases_order (number_of one.kind) (number_of other.kind)) [
-        inl same ↦ same
+      | inl same ↦ same
       | inr (inl below) ↦ absurd (m.least one.kind one.line l.holds (inr (phases, inr (lines, below))))
-      | inr (inr above) ↦ absurd (l.least other.kind other.line m.holds (inr (sym phases, inr (sym lines, above)))) ] in
+      | inr (inr above) ↦ absurd (l.least other.kind other.line m.holds (inr (sym phases, inr (sym lines, above))))
+    ] in
     same_refusal one other (l.phase ∙ phases ∙ sym m.phase) lines (same_kind one.kind other.kind phases numbers)
 
 -- no fault comes before itself, nor before one of an earlier phase

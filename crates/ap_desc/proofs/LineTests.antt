@@ -40,7 +40,7 @@ clear_of statements cards kinds asked e kind line known is_asked h =
     let passes : is_clear cards kinds asked h.before h.n ≡ true = passes_after (is_clear cards kinds asked) [] statements e h.before h.n h.place.after h.place.parts in
     let here : asked h.n.line ≡ true = ap asked h.place.numbered ∙ is_asked in
     let clear : not (is_faulty cards (scope_after h.before cards) h.n.statement kind) ≡ true
-          = contained_passes (λ kind. not (is_faulty cards (scope_after h.before cards) h.n.statement kind)) kinds kind (rw here at passes) known in
+    = contained_passes (λ kind. not (is_faulty cards (scope_after h.before cards) h.n.statement kind)) kinds kind (rw here at passes) known in
     both_ways (is_faulty cards (scope_after h.before cards) h.n.statement kind) (not-true (is_faulty cards (scope_after h.before cards) h.n.statement kind) clear) h.holds
 
 abbrev pub name_kinds : List Fault

@@ -73,6 +73,7 @@ closes_no_later design stage line other c d below =
 
 pub one_closing_line : (design : Design) (stage line other : ℕ) → ClosesLoop design stage line → ClosesLoop design stage other → line ≡ other
 one_closing_line design stage line other c d = elim (cases_order line other) [
-    inl same ↦ same
+  | inl same ↦ same
   | inr (inl below) ↦ absurd (closes_no_later design stage line other c d below)
-  | inr (inr above) ↦ absurd (closes_no_later design stage other line d c above) ]
+  | inr (inr above) ↦ absurd (closes_no_later design stage other line d c above)
+]

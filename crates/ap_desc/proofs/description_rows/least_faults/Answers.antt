@@ -92,8 +92,9 @@ returns-clause-slots c = found_from_least (MeetsFault many_slots []) _ (record {
 -- the line of the only one that is faulty
 at_line : (own line : ℕ) → ((own == line) || false) ≡ true → own ≡ line
 at_line own line h = elim (or_cases (own == line) false h) [
-    inl here ↦ eqb-true own line here
-  | inr none ↦ absurd (both_ways false refl none) ]
+  | inl here ↦ eqb-true own line here
+  | inr none ↦ absurd (both_ways false refl none)
+]
 
 abbrev narrow_field : List Numbered
 narrow_field = smallest_but 8 0 7 0 []

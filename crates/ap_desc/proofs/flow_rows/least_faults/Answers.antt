@@ -18,13 +18,15 @@ use Rattle.ap_desc.proofs.flow_rows.least_faults.Goals as goal
 -- the line of the only one that is faulty
 at_line : (own line : ℕ) → ((own == line) || false) ≡ true → own ≡ line
 at_line own line h = elim (or_cases (own == line) false h) [
-    inl here ↦ eqb-true own line here
-  | inr none ↦ absurd (both_ways false refl none) ]
+  | inl here ↦ eqb-true own line here
+  | inr none ↦ absurd (both_ways false refl none)
+]
 
 at_line_in : (own line : ℕ) → (((own == line) || false) || false) ≡ true → own ≡ line
 at_line_in own line h = elim (or_cases ((own == line) || false) false h) [
-    inl here ↦ at_line own line here
-  | inr none ↦ absurd (both_ways false refl none) ]
+  | inl here ↦ at_line own line here
+  | inr none ↦ absurd (both_ways false refl none)
+]
 
 -- a kind comes before itself at an earlier line alone
 own_line_before : (kind : Fault) (line at : ℕ) → IsBefore kind line kind at → line < at

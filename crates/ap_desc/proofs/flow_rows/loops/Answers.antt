@@ -26,26 +26,35 @@ returns-clause-closes_right c = none_closes 8 rank one refl
 
 pub returns-clause-own_loop : goal.returns-clause-own_loop
 returns-clause-own_loop c =
-    let again : Micro = record { line = 23; stage = 2; act = act.Compute 0 0 (arg.Local 1) (arg.Local 0) } in
-    (2, record {
-      micro = again;
-      is_line = (2, lit< tt, refl);
-      at = refl;
-      in_stage = refl;
-      closed = (node.Unit 0, [], (record {
-        instr = two_steps 0;
-        is_instr = (1, lit< tt, refl);
-        user = again;
+    let again : Micro = record { line = 23; stage = 2; act = act.Compute 0 0 (arg.Local 1) (arg.Local 0) } in (
+      2,
+      record {
+        micro = again;
         is_line = (2, lit< tt, refl);
+        at = refl;
         in_stage = refl;
-        counted = refl;
-        uses = refl;
-        source = record { line = 22; stage = 2; act = act.Compute 0 0 (arg.Local 0) (arg.Local 0) };
-        uses_from = refl;
-        wired = (0, arg.Local 1, lit< tt, refl, ([], tt, refl));
-      }, tt));
-      open_before = unlooped 8 (λ n. nat_lt n 23) rank (flow_design (two_steps 0 ∷ [])) refl 2;
-    })
+        closed = (
+          node.Unit 0,
+          [],
+          (
+            record {
+              instr = two_steps 0;
+              is_instr = (1, lit< tt, refl);
+              user = again;
+              is_line = (2, lit< tt, refl);
+              in_stage = refl;
+              counted = refl;
+              uses = refl;
+              source = record { line = 22; stage = 2; act = act.Compute 0 0 (arg.Local 0) (arg.Local 0) };
+              uses_from = refl;
+              wired = (0, arg.Local 1, lit< tt, refl, ([], tt, refl));
+            },
+            tt,
+          ),
+        );
+        open_before = unlooped 8 (λ n. nat_lt n 23) rank (flow_design (two_steps 0 ∷ [])) refl 2;
+      },
+    )
 
 abbrev is_unit : ℕ → Node → Bool
 is_unit n (node.Unit u) = u == n
@@ -62,8 +71,9 @@ node_passes m = not (m.stage == 2) || option_map_or (λ x. is_unit 0 x || is_uni
 
 contained : (x : Node) → (is_unit 0 x || is_unit 1 x) ≡ true → Contains (node.Unit 0 ∷ node.Unit 1 ∷ []) x
 contained x e = elim (or_cases (is_unit 0 x) (is_unit 1 x) e) [
-    inl h ↦ let is : x ≡ node.Unit 0 = unit_is 0 x h in (0, lit< tt, sym is)
-  | inr h ↦ let is : x ≡ node.Unit 1 = unit_is 1 x h in (1, lit< tt, sym is) ]
+  | inl h ↦ let is : x ≡ node.Unit 0 = unit_is 0 x h in (0, lit< tt, sym is)
+  | inr h ↦ let is : x ≡ node.Unit 1 = unit_is 1 x h in (1, lit< tt, sym is)
+]
 
 is_listed : (x : Node) → IsNodeOf one 2 x → Contains (node.Unit 0 ∷ node.Unit 1 ∷ []) x
 is_listed x (k, m, low, at, (in_stage, uses)) =
@@ -77,6 +87,7 @@ is_used x (suc (suc k), low, at) = absurd (omega arith)
 
 abbrev order : List Node
 order = node.Unit 0 ∷ node.Unit 1 ∷ []
+
 stands_once : (x : Node) (i j : ℕ) → slice_get order i ≡ Some x → slice_get order j ≡ Some x → i ≡ j
 stands_once x zero zero at again = refl
 stands_once x zero (suc zero) at again = absurd cc
