@@ -1,5 +1,5 @@
 -- A clean design is encoded: its formats fill the word, fixed values fit, no word is shared, and NOP is empty.
-use Rattle.std.proofs.Common.{◌≡◌, ℕ, zero, suc, ◌<◌, ◌^◌, Bool, true, false, List, [], ◌∷◌, Some, None, inl, inr, refl, arith, sum_by}
+use Rattle.std.proofs.Common.{◌≡◌, ℕ, suc, ◌<◌, ◌^◌, Bool, true, false, List, [], ◌∷◌, Some, None, inl, inr, refl, arith, sum_by}
 use Rattle.std.specs.Prelude.{◌==◌, ◌&&◌, nat_lt, not, slice_get, Option, IsSomeAnd, IsTrue, zip}
 use Rattle.std.specs.List.{AllByRecursion as Each, list_any, list_all}
 use Rattle.std.specs.Option.{option_map_or}

@@ -1,5 +1,5 @@
 -- The least fault: it is the same among all that hold and among those that are looked at, and there is one at most.
-use Rattle.std.proofs.Common.{◌≡◌, ℕ, ◌<◌, ◌≤◌, ◌⊎◌, inl, inr, List, [], ◌∷◌, get_or, refl, ap, sym, ◌∙◌, lit<, arith}
+use Rattle.std.proofs.Common.{◌≡◌, ℕ, ◌<◌, ◌≤◌, inl, inr, List, [], ◌∷◌, get_or, refl, ap, sym, ◌∙◌, lit<, arith}
 use Rattle.std.proofs.lemmas.Bool.{cases_lt, cases_order}
 use Rattle.ap_desc.specs.FaultTable.{phase_of, number_of}
 use Rattle.ap_desc.specs.Faults.{IsBefore}

@@ -1,6 +1,6 @@
 -- A test of each line with those before it, and by it that no fault of names or widths holds of a description.
-use Rattle.std.proofs.Common.{◌≡◌, ℕ, Bool, true, false, List, [], ◌∷◌, ◌++◌, ap, sym, subst, refl, ◌∙◌, lit<, append_assoc}
-use Rattle.std.specs.Prelude.{◌&&◌, ◌||◌, not, IsTrue, Contains}
+use Rattle.std.proofs.Common.{◌≡◌, ℕ, Bool, true, false, List, [], ◌∷◌, ◌++◌, ap, subst, refl, ◌∙◌, lit<, append_assoc}
+use Rattle.std.specs.Prelude.{◌&&◌, ◌||◌, not, Contains}
 use Rattle.std.specs.List.{list_all}
 use Rattle.std.proofs.lemmas.Bool.{and_parts, both_ways, not-true}
 use Rattle.std.proofs.lemmas.List.{append-nil}

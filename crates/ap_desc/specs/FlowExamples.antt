@@ -2,12 +2,11 @@
 -- file, a memory and an input, and instructions of given lines.
 use Rattle.std.specs.Prelude.{ℕ, ◌+◌, List, [], ◌∷◌, codes, replicate, Some, None}
 use Rattle.ap_desc.specs.declared.design.Design.{Design}
-use Rattle.ap_desc.specs.declared.design.Field.{Field}
 use Rattle.ap_desc.specs.declared.design.Instr.{Instr}
 use Rattle.ap_desc.specs.declared.design.Micro.{Micro}
 use Rattle.ap_desc.specs.declared.design.Arg.TheVariants as arg
 use Rattle.ap_desc.specs.declared.design.Act.TheVariants as act
-use Rattle.ap_desc.specs.Examples.{adder_fields, adder_instr, adder_nop, smallest_design}
+use Rattle.ap_desc.specs.Examples.{adder_fields, adder_nop, smallest_design}
 
 -- stages 4, transfer 2 1, and these instructions after NOP
 abbrev pub flow_design : List Instr → Design

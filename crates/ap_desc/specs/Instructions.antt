@@ -1,5 +1,5 @@
 -- The instructions of a description: the lines of each, and what its words amount to once names are replaced by places.
-use Rattle.std.specs.Prelude.{ℕ, List, [], ◌∷◌, ◌++◌, map, reverse, fold, flat_map, find, sum_by, zip, Option, Some, None, option_map, option_to_list, if◌then◌else◌}
+use Rattle.std.specs.Prelude.{ℕ, List, [], ◌∷◌, ◌++◌, map, fold, flat_map, find, sum_by, zip, Option, Some, None, option_map, option_to_list, if◌then◌else◌}
 use Rattle.std.specs.Option.{option_map_or}
 use Rattle.std.specs.Str.{bytes_eq}
 use Rattle.ap_bits.specs.declared.card.Card.{Card}

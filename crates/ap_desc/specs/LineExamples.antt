@@ -1,6 +1,6 @@
 -- An example description up to the middle of an instruction, in whose scope further lines are judged: four stages, a part of each sort,
 -- and an instruction with a local `a` of 8 bits and a local `b` of 2 bits.
-use Rattle.std.specs.Prelude.{ℕ, Bool, List, [], ◌∷◌, ◌++◌, codes}
+use Rattle.std.specs.Prelude.{Bool, List, [], ◌∷◌, ◌++◌, codes}
 use Rattle.ap_bits.specs.declared.card.Card.{Card}
 use Rattle.ap_bits.specs.declared.card.Latency.TheVariants.{One}
 use Rattle.ap_bits.specs.declared.card.Widths.TheVariants.{PowersOfTwo}

@@ -1,6 +1,6 @@
 -- The faults of names: what is named isn't declared, or is declared twice, or is no kind or operation of the shelf. Each is a test
 -- of a statement in the scope of the lines before it. The rules are the project's own.
-use Rattle.std.specs.Prelude.{ℕ, ◌&&◌, ◌||◌, nat_lt, not, Bool, true, false, List, [], ◌∷◌, Option}
+use Rattle.std.specs.Prelude.{ℕ, ◌&&◌, ◌||◌, nat_lt, not, Bool, true, false, List, Option}
 use Rattle.std.specs.List.{list_any}
 use Rattle.std.specs.Option.{option_map_or}
 use Rattle.ap_bits.specs.declared.card.Card.{Card}

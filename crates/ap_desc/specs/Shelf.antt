@@ -1,5 +1,5 @@
 -- Designs over the cards of a shelf: a unit's kind is the place of its card.
-use Rattle.std.specs.Prelude.{◌≡◌, ℕ, ◌<◌, List, length, slice_get, IsSomeAnd}
+use Rattle.std.specs.Prelude.{◌≡◌, ◌<◌, List, length, slice_get, IsSomeAnd}
 use Rattle.std.specs.List.{AllByRecursion as Each}
 use Rattle.ap_bits.specs.Cards.{FitsWidth, latency_at}
 use Rattle.ap_bits.specs.declared.card.Card.{Card}

@@ -1,6 +1,6 @@
 -- The faults of a design's code words: formats that don't fill the word, fixed values that don't fit, instructions that share a word,
 -- and a NOP that does something. The rules are the project's own.
-use Rattle.std.specs.Prelude.{◌≡◌, ℕ, ◌^◌, ◌<◌, ◌==◌, ◌&&◌, nat_lt, not, Bool, false, IsTrue, List, [], ◌∷◌, sum_by, zip, Option, Some, slice_get}
+use Rattle.std.specs.Prelude.{◌≡◌, ℕ, ◌^◌, ◌<◌, ◌==◌, ◌&&◌, nat_lt, not, Bool, false, List, [], ◌∷◌, sum_by, zip, Option, Some, slice_get}
 use Rattle.std.specs.List.{list_any}
 use Rattle.std.specs.Option.{option_map_or}
 use Rattle.ap_desc.specs.declared.design.Design.{Design}

@@ -1,4 +1,4 @@
-use Rattle.std.proofs.Common.{◌≡◌, ℕ, ◌<◌, ◌⊎◌, refl, List, [], ◌∷◌, ◌++◌, true, false, inl, inr, rules, arith, lit<}
+use Rattle.std.proofs.Common.{◌≡◌, ℕ, ◌<◌, refl, List, [], ◌∷◌, true, false, inl, inr, rules, arith, lit<}
 use Rattle.std.specs.Prelude.{codes, ◌==◌, ◌||◌, nat_lt, Contains}
 use Rattle.std.proofs.lemmas.Bool.{both_ways, eqb-true, lt-ltb, or_cases}
 use Rattle.ap_desc.proofs.Apart.{no_word_shared}
@@ -13,7 +13,6 @@ use Rattle.ap_desc.specs.FaultTable.{phase_of}
 use Rattle.ap_desc.specs.LineFaults.{HasLineFault}
 use Rattle.ap_desc.specs.Meaning.{MeetsFault}
 use Rattle.ap_desc.specs.declared.description.Numbered.{Numbered}
-use Rattle.ap_desc.specs.declared.design.Design.{Design}
 use Rattle.ap_desc.specs.declared.fault.Fault.{Fault}
 use Rattle.ap_desc.specs.declared.fault.Fault.TheVariants as f
 use Rattle.ap_desc.specs.declared.statement.Statement.TheVariants as s

@@ -1,13 +1,10 @@
-use Rattle.std.proofs.Common.{◌≡◌, ℕ, refl, [], ◌∷◌, true, false, inl, inr, rules}
+use Rattle.std.proofs.Common.{ℕ, refl, [], ◌∷◌, true, inl, inr, rules}
 use Rattle.std.proofs.lemmas.Bool.{both_ways}
-use Rattle.std.specs.Prelude.{nat_le, codes}
 use Rattle.ap_desc.proofs.Apart.{no_word_shared}
 use Rattle.ap_desc.proofs.Behind.{none_closes, stable_operands}
 use Rattle.ap_desc.proofs.LineTests.{no_line_fault}
 use Rattle.ap_desc.specs.Clean.{HasDesignFault}
 use Rattle.ap_desc.specs.Examples.{adder_card, adder_design, adder_statements, smallest, smallest_design}
-use Rattle.ap_desc.specs.declared.design.Design.{Design}
-use Rattle.ap_desc.specs.declared.design.Node.{Node}
 use Rattle.ap_desc.specs.declared.fault.Fault.{Fault}
 use Rattle.ap_desc.specs.declared.fault.Fault.TheVariants as f
 use Rattle.ap_desc.proofs.description_rows.without_fault.Goals as goal

@@ -1,4 +1,4 @@
-use Rattle.std.proofs.Common.{◌≡◌, ℕ, ◌<◌, ◌≤◌, Bool, refl, [], ◌∷◌, true, false, inl, inr, rules, arith, lit<, lit≤}
+use Rattle.std.proofs.Common.{◌≡◌, ℕ, ◌<◌, ◌≤◌, refl, [], ◌∷◌, true, false, inl, inr, rules, arith, lit<, lit≤}
 use Rattle.std.specs.Prelude.{◌||◌, ◌==◌, nat_lt}
 use Rattle.std.proofs.lemmas.Bool.{both_ways, eqb-true, lt-ltb, or_cases}
 use Rattle.ap_desc.proofs.Behind.{none_closes, none_closes_before, stable_operands}

@@ -1,10 +1,10 @@
-use Rattle.std.proofs.Common.{◌≡◌, ℕ, zero, suc, ◌+◌, ◌<◌, refl, lit<, [], ◌∷◌, true, false, Some, None, sym, ap, ◌∙◌, subst, arith, inl, inr}
-use Rattle.std.specs.Prelude.{◌==◌, ◌&&◌, ◌||◌, not, nat_lt, nat_le, Bool, List, Contains, Any, IsTrue, Option, slice_get}
+use Rattle.std.proofs.Common.{◌≡◌, ℕ, zero, suc, refl, lit<, [], ◌∷◌, true, false, Some, sym, ap, subst, arith, inl, inr}
+use Rattle.std.specs.Prelude.{◌==◌, ◌&&◌, ◌||◌, not, nat_lt, Bool, List, Contains, slice_get}
 use Rattle.std.specs.Option.{option_map_or}
-use Rattle.std.proofs.lemmas.Bool.{ltb-true, and_parts, or_cases, eqb-true, eq-eqb}
+use Rattle.std.proofs.lemmas.Bool.{and_parts, or_cases, eqb-true}
 use Rattle.ap_desc.proofs.Behind.{contained_passes, edge_passes, none_closes, unlooped}
 use Rattle.ap_desc.proofs.FlowFacts.{both_closes, rank}
-use Rattle.ap_desc.specs.Chains.{Edge, IsLooped, IsNodeOf, node_of}
+use Rattle.ap_desc.specs.Chains.{IsNodeOf, node_of}
 use Rattle.ap_desc.specs.FlowExamples.{flow_design, two_units, two_steps}
 use Rattle.ap_desc.specs.Ports.{micros_in}
 use Rattle.ap_desc.specs.declared.design.Design.{Design}
