@@ -1,5 +1,6 @@
 pub mod Apart
 pub mod Behind
+pub mod Composed
 pub mod Decimals
 pub mod Encoded
 pub mod FlowFacts

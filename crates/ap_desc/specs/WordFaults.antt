@@ -1,6 +1,6 @@
 -- The faults of a design's code words: formats that don't fill the word, fixed values that don't fit, instructions that share a word,
 -- and a NOP that does something. The rules are the project's own.
-use Rattle.std.specs.Prelude.{◌≡◌, ℕ, ◌^◌, ◌<◌, ◌==◌, ◌&&◌, nat_lt, not, Bool, false, List, [], ◌∷◌, sum_by, zip, Option, Some, slice_get}
+use Rattle.std.specs.Prelude.{◌≡◌, ℕ, ◌^◌, ◌<◌, ◌==◌, ◌&&◌, nat_lt, not, Bool, true, false, List, [], ◌∷◌, sum_by, zip, Option, Some, slice_get}
 use Rattle.std.specs.List.{list_any}
 use Rattle.std.specs.Option.{option_map_or}
 use Rattle.ap_desc.specs.declared.design.Design.{Design}
@@ -47,7 +47,7 @@ pub record SharesWord (design : Design) (line : ℕ) : Type 0 where
 
 abbrev pub has_lines : List Micro → Bool
 has_lines [] = false
-has_lines (m ∷ micros) = not false
+has_lines (m ∷ micros) = true
 
 -- the instruction at the line is NOP and has a micro-operation
 abbrev pub has_full_nop : Design → ℕ → Bool

@@ -3,8 +3,10 @@ ghost use Rattle.std.specs.Prelude.{◌≡◌, ◌↔◌, ℕ, List, true};
 ghost use Rattle.ap_bits.specs.declared.card.Card.{Card};
 ghost use Rattle.ap_desc.specs.Chains.{ClosesLoop, IsChainOrder, IsLooped};
 ghost use Rattle.ap_desc.specs.Clean.{IsClean};
-ghost use Rattle.ap_desc.specs.Least.{IsLeast};
-ghost use Rattle.ap_desc.specs.Meaning.{IsLeastAnyFault, IsLeastMeaningFault, IsLeastPortFault, IsLeastWordFault, MeetsAnyFault, MeetsFault, MeetsPortFault, MeetsWordFault};
+ghost use Rattle.ap_desc.specs.DesignOf.{design_of};
+ghost use Rattle.ap_desc.specs.Least.{HoldsNowhere, IsLeast};
+ghost use Rattle.ap_desc.specs.LineFaults.{HasLineFault};
+ghost use Rattle.ap_desc.specs.Meaning.{IsLeastAnyFault, IsLeastMeaningFault, IsLeastPortFault, IsLeastWordFault, IsMeaningful, MeetsAnyFault, MeetsFault, MeetsPortFault, MeetsWordFault};
 ghost use Rattle.ap_desc.specs.Reading.{ReadsAs};
 ghost use Rattle.ap_desc.specs.Sound.{IsEncoded};
 ghost use Rattle.ap_desc.specs.Spelling.{Spells};
@@ -39,6 +41,18 @@ pub fn least_fault_is_looked_at()
     ensures text { (text : List ℕ) (cards : List Card) (refusal : Refusal) → IsLeast (MeetsAnyFault text cards) refusal ↔ IsLeastAnyFault text cards refusal }
     ensures words { (design : Design) (refusal : Refusal) → IsLeast (MeetsWordFault design) refusal ↔ IsLeastWordFault design refusal }
     ensures ports { (design : Design) (refusal : Refusal) → IsLeast (MeetsPortFault design) refusal ↔ IsLeastPortFault design refusal }
+{}
+
+/// The least fault of a description is found phase by phase: among its lines; where they have none, among the words of its design; and
+/// where these have none, among ports and stages.
+pub fn least_fault_by_phases()
+    ensures lines { (statements : List Numbered) (cards : List Card) (refusal : Refusal) → IsLeast (HasLineFault statements cards) refusal → IsLeastMeaningFault statements cards refusal }
+    ensures words { (statements : List Numbered) (cards : List Card) (refusal : Refusal) → HoldsNowhere (HasLineFault statements cards)
+        → IsLeastWordFault (design_of statements cards) refusal → IsLeastMeaningFault statements cards refusal }
+    ensures ports { (statements : List Numbered) (cards : List Card) (refusal : Refusal) → HoldsNowhere (HasLineFault statements cards) → HoldsNowhere (MeetsWordFault (design_of statements cards))
+        → IsLeastPortFault (design_of statements cards) refusal → IsLeastMeaningFault statements cards refusal }
+    ensures none { (statements : List Numbered) (cards : List Card) → HoldsNowhere (HasLineFault statements cards) → HoldsNowhere (MeetsWordFault (design_of statements cards))
+        → HoldsNowhere (MeetsPortFault (design_of statements cards)) → IsMeaningful statements cards }
 {}
 
 /// A stage whose nodes have an order in which every edge goes forward has no loop. A line that closes a loop leaves the stage with one, and
