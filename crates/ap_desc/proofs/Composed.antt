@@ -1,9 +1,8 @@
 -- The least fault of a description from those of its phases.
-use Rattle.std.proofs.Common.{◌≡◌, ℕ, ◌<◌, ◌≤◌, false, List, inl, inr, refl, sym, ◌∙◌, lit<, lit≤, arith}
+use Rattle.std.proofs.Common.{◌≡◌, ℕ, ◌<◌, ◌≤◌, false, List, inl, inr, refl, lit<, arith}
 use Rattle.std.proofs.lemmas.Bool.{both_ways, cases_lt}
 use Rattle.ap_bits.specs.declared.card.Card.{Card}
 use Rattle.ap_desc.proofs.LeastFaults.{design_phase, found_from_least, least_from_found, not_before_earlier}
-use Rattle.ap_desc.specs.Clean.{HasDesignFault}
 use Rattle.ap_desc.specs.DesignOf.{design_of}
 use Rattle.ap_desc.specs.FaultTable.{phase_of}
 use Rattle.ap_desc.specs.Faults.{IsBefore}
