@@ -1,0 +1,4 @@
+pub mod LineFaults
+pub mod Places
+pub mod ReadFaults
+pub mod SaidBy
