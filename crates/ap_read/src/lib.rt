@@ -1,6 +1,7 @@
 //! Reads the text of a description: its statements, or the least fault of form.
 #![tactic(auto)]
 
+pub mod laws;
 pub mod missing;
 pub mod place;
 pub mod reading;
