@@ -1,0 +1,4 @@
+pub mod Answers
+pub mod Forms
+pub mod Parts
+pub mod SaidBy
