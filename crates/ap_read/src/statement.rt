@@ -36,3 +36,6 @@ fn spelled(alloc: Global, tokens: &[&[u8]]) -> Result<Statement, Unread>
         Err(_) => declaration(alloc, first, rest),
     }
 }
+
+#[cfg(test)]
+mod tests;
