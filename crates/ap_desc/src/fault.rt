@@ -1,5 +1,6 @@
 ghost use Rattle.std.specs.Prelude.{◌≡◌, codes};
 ghost use Rattle.ap_desc.specs.FaultTable.{phase_of, number_of, code_of};
+ghost use Rattle.ap_desc.specs.declared.fault.DescFault.TheVariants as fault;
 
 /// A kind of fault of a description.
 #[derive(Clone, Copy, Debug, PartialEq, Eq)]
@@ -171,4 +172,20 @@ pub enum DescFault {
     Refused(Refusal),
     /// Memory ran out.
     NoMemory,
+}
+
+impl From<ap_bits::NoMemory> for DescFault {
+    ghost from_gives = { λ _ given. given ≡ fault.NoMemory };
+
+    fn from(_: ap_bits::NoMemory) -> DescFault {
+        DescFault::NoMemory
+    }
+}
+
+impl From<ap_text::NoMemory> for DescFault {
+    ghost from_gives = { λ _ given. given ≡ fault.NoMemory };
+
+    fn from(_: ap_text::NoMemory) -> DescFault {
+        DescFault::NoMemory
+    }
 }

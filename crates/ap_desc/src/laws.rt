@@ -3,11 +3,13 @@ ghost use Rattle.std.specs.Prelude.{◌≡◌, ◌↔◌, ℕ, List, true};
 ghost use Rattle.ap_bits.specs.declared.card.Card.{Card};
 ghost use Rattle.ap_desc.specs.Chains.{ClosesLoop, IsChainOrder, IsLooped};
 ghost use Rattle.ap_desc.specs.Clean.{IsClean};
+ghost use Rattle.ap_desc.specs.Descriptions.{IsDescription};
 ghost use Rattle.ap_desc.specs.DesignOf.{design_of};
 ghost use Rattle.ap_desc.specs.Least.{HoldsNowhere, IsLeast};
 ghost use Rattle.ap_desc.specs.LineFaults.{HasLineFault};
 ghost use Rattle.ap_desc.specs.Meaning.{IsLeastAnyFault, IsLeastMeaningFault, IsLeastPortFault, IsLeastWordFault, IsMeaningful, MeetsAnyFault, MeetsFault, MeetsPortFault, MeetsWordFault};
 ghost use Rattle.ap_desc.specs.Reading.{ReadsAs};
+ghost use Rattle.ap_desc.specs.Shown.{renumbered, shown_text};
 ghost use Rattle.ap_desc.specs.Sound.{IsEncoded};
 ghost use Rattle.ap_desc.specs.Spelling.{Spells};
 ghost use Rattle.ap_desc.specs.declared.description.Numbered.{Numbered};
@@ -67,4 +69,11 @@ pub fn loops_and_orders()
 #[tactic(auto, using(crate::proofs::Encoded::encoded_if_clean))]
 pub fn clean_is_encoded()
     ensures { (design : Design) → IsClean design → IsEncoded design }
+{}
+
+/// The text that is shown of a description reads as its statements, at the lines 1, 2 and so on, and they are a
+/// description too.
+pub fn shown_is_read()
+    ensures reads { (statements : List Numbered) → IsDescription statements → ReadsAs (shown_text statements) (renumbered 1 statements) }
+    ensures description { (statements : List Numbered) → IsDescription statements → IsDescription (renumbered 1 statements) }
 {}

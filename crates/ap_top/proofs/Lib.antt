@@ -1,7 +1,10 @@
 pub mod Words
 pub mod Changes
 pub mod Calls
+pub mod Fronts
+pub mod Judging
 pub mod Matching
+pub mod Ranges
 pub mod Stopping
 pub mod TwoStage
 pub mod Behaviour

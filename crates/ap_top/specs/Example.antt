@@ -1,5 +1,8 @@
 -- A worked example: the first rows of one small processor, computed from the definitions.
 use Rattle.std.specs.Prelude.{◌≡◌, ℕ, List, [], ◌∷◌, map, codes, None, false}
+use Rattle.ap_desc.specs.declared.description.Numbered.{Numbered}
+use Rattle.ap_desc.specs.declared.statement.Statement.TheVariants as s
+use Rattle.ap_desc.specs.declared.statement.Word.TheVariants.{Named}
 use Rattle.ap_net.specs.Outside.{Image}
 use Rattle.ap_net.specs.Rows.{Row}
 use Rattle.ap_top.specs.declared.form.Form.{Form}
@@ -12,6 +15,18 @@ example_form = record { address = 4; word = 8; width = 8; start = 3; code = 1; c
 -- a description of it
 abbrev pub example_text : List ℕ
 example_text = codes "stages 2\naddress 4\nword 8\ntransfer 1 0\nreg R 8 3\nunit U alu 8\nformat F op:8\ninstr NOP F op=0\nend\ninstr I F op=1\n  1 a = R\n  1 k = const 8 250\n  1 s = U.add a k\n  1 R <- s\nend\n"
+
+-- what its lines say
+abbrev pub example_statements : List Numbered
+example_statements =
+    record { line = 1; statement = s.Stages 2 } ∷ record { line = 2; statement = s.Address 4 } ∷ record { line = 3; statement = s.Word 8 }
+    ∷ record { line = 4; statement = s.Transfer 1 0 } ∷ record { line = 5; statement = s.Reg (codes "R") 8 3 } ∷ record { line = 6; statement = s.Unit (codes "U") (codes "alu") 8 }
+    ∷ record { line = 7; statement = s.Format (codes "F") (record { field = codes "op"; number = 8 } ∷ []) }
+    ∷ record { line = 8; statement = s.Instr (codes "NOP") (codes "F") (record { field = codes "op"; number = 0 } ∷ []) } ∷ record { line = 9; statement = s.End }
+    ∷ record { line = 10; statement = s.Instr (codes "I") (codes "F") (record { field = codes "op"; number = 1 } ∷ []) }
+    ∷ record { line = 11; statement = s.ReadRegister 1 (codes "a") (codes "R") } ∷ record { line = 12; statement = s.Const 1 (codes "k") 8 250 }
+    ∷ record { line = 13; statement = s.Compute 1 (codes "s") (codes "U") (codes "add") (Named (codes "a")) (Named (codes "k")) }
+    ∷ record { line = 14; statement = s.WriteRegister 1 (codes "R") (Named (codes "s")) None } ∷ record { line = 15; statement = s.End } ∷ []
 
 -- the adding instruction twice
 abbrev pub example_image : Image

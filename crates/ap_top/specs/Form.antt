@@ -1,14 +1,17 @@
 -- The one form of description that is built today: fifteen lines in which six letters stand for numbers.
-use Rattle.std.specs.Prelude.{◌≡◌, ℕ, ◌≤◌, ◌<◌, ◌^◌, List, [], ◌∷◌, ◌++◌, length, codes, IsTrue, Some}
+use Rattle.std.specs.Prelude.{◌≡◌, ◌⊎◌, ℕ, ◌≤◌, ◌<◌, ◌^◌, List, [], ◌∷◌, ◌++◌, length, take, codes, IsTrue, Some}
 use Rattle.ap_text.specs.Lines.{TextLine, lines_of}
 use Rattle.ap_text.specs.Numbers.{number_value}
+use Rattle.ap_desc.specs.Faults.{IsFaultless, IsLeastFault, StandsAt}
+use Rattle.ap_desc.specs.declared.fault.DescFault.{DescFault}
+use Rattle.ap_desc.specs.declared.fault.DescFault.TheVariants as fault
 use Rattle.ap_top.specs.declared.form.Form.{Form}
 use Rattle.ap_top.specs.declared.pattern.Letter.{Letter}
 use Rattle.ap_top.specs.declared.pattern.Letter.TheVariants.{Address, Word, Width, Start, Code, Constant}
 use Rattle.ap_top.specs.declared.form.ReadFault.{ReadFault}
 use Rattle.ap_top.specs.declared.form.ReadFault.TheVariants.{Refused, NoMemory}
 use Rattle.ap_top.specs.declared.form.Judged.{Judged}
-use Rattle.ap_top.specs.declared.form.Judged.TheVariants.{TooLong, NotBuilt}
+use Rattle.ap_top.specs.declared.form.Judged.TheVariants as judged
 
 -- the number that a letter stands for
 abbrev pub value_of : Form → Letter → ℕ
@@ -93,9 +96,30 @@ pub record IsForm (form : Form) : Type 0 where
   pub width_high : form.width ≤ 64
   pub values : AreValuesFitting form
 
--- the most bytes that a description may have
-abbrev pub description_limit : ℕ
-description_limit = 1048576
+-- the lines are the first ones of the form, with its numbers
+abbrev pub AreFirstLines : Form → List TextLine → Type 0
+AreFirstLines form lines = AreLines form (take (length lines) first_form) lines
+
+-- the lines are the first ones of the form, with numbers within their ranges
+abbrev pub BeginForm : List TextLine → Type 0
+BeginForm lines = (form : Form) × AreFirstLines form lines × IsForm form
+
+-- the line of this number is the first whose tokens aren't those due: the lines before it begin the form, and with it they don't
+pub record IsFirstWrong (lines : List TextLine) (number : ℕ) : Type 0 where
+  pub before : List TextLine
+  pub line : TextLine
+  pub place : StandsAt lines number before line
+  pub begun : BeginForm before
+  pub ends : BeginForm (before ++ line ∷ []) → ⊥
+
+-- all lines begin the form, and there are too few of them
+pub record AreTooFew (lines : List TextLine) : Type 0 where
+  pub few : length lines < length first_form
+  pub begun : BeginForm lines
+
+-- where the lines aren't those of the form: at the first that isn't due, or, where there are too few, at line 0
+abbrev pub IsNotBuiltAt : List TextLine → ℕ → Type 0
+IsNotBuiltAt lines number = IsFirstWrong lines number ⊎ ((number ≡ 0) × AreTooFew lines)
 
 -- the text has the form's lines, with these numbers
 pub record IsFirstForm (text : List ℕ) (form : Form) : Type 0 where
@@ -104,15 +128,25 @@ pub record IsFirstForm (text : List ℕ) (form : Form) : Type 0 where
 
 -- the text is a description without fault, of the form with these numbers
 pub record IsDescription (text : List ℕ) (form : Form) : Type 0 where
-  pub within : length text ≤ description_limit
+  pub faultless : IsFaultless text
   pub first : IsFirstForm text form
 
--- the fault is the text's: it is too long; or it isn't, and isn't of the form
+-- the fault is the text's: its least fault of form; or it has none, and isn't of the form from this line on
 abbrev pub HasFault : List ℕ → Judged → Type 0
-HasFault text TooLong = description_limit < length text
-HasFault text (NotBuilt line) = (line ≡ 0) × (length text ≤ description_limit) × ((form : Form) → IsFirstForm text form → ⊥)
+HasFault text (judged.Refused refusal) = IsLeastFault text refusal
+HasFault text (judged.NotBuilt line) = IsFaultless text × IsNotBuiltAt (lines_of text) line
 
 -- why reading a text gave no form
 abbrev pub IsReadFault : List ℕ → ReadFault → Type 0
 IsReadFault text (Refused judged) = HasFault text judged
 IsReadFault text NoMemory = Unit {0}
+
+-- why lines gave no form: they aren't its lines from this one on
+abbrev pub IsNotBuilt : List TextLine → Judged → Type 0
+IsNotBuilt lines (judged.Refused refusal) = ⊥
+IsNotBuilt lines (judged.NotBuilt line) = IsNotBuiltAt lines line
+
+-- how a fault of reading a description is one of reading a form
+abbrev pub reading_of : DescFault → ReadFault
+reading_of (fault.Refused refusal) = Refused (judged.Refused refusal)
+reading_of fault.NoMemory = NoMemory

@@ -1,10 +1,10 @@
 -- The numbers that were found for the letters of a form so far, and which forms have them.
-use Rattle.std.specs.Prelude.{◌≡◌, ◌⊎◌, ◌↔◌, ℕ, List, [], ◌∷◌, Bool, false, IsTrue, Option, None, IsSome, IfSome, slice_index_or}
+use Rattle.std.specs.Prelude.{◌≡◌, ◌↔◌, ℕ, List, [], Bool, false, IsTrue, Option, None, IfSome, slice_index_or}
 use Rattle.ap_top.specs.declared.form.Form.{Form}
 use Rattle.ap_top.specs.declared.pattern.Letter.{Letter}
 use Rattle.ap_top.specs.declared.pattern.Piece.{Piece}
 use Rattle.ap_top.specs.declared.pattern.Piece.TheVariants.{Exactly, Number, Tagged}
-use Rattle.ap_top.specs.Form.{Token, exactly, tagged, value_of, place_of}
+use Rattle.ap_top.specs.Form.{Token, exactly, tagged, value_of, place_of, IsForm}
 
 -- the token that a piece of the table stands for
 abbrev pub token_of : Piece → Token
@@ -16,30 +16,17 @@ token_of (Tagged text letter) = tagged text.now letter
 abbrev pub found_at : List (Option ℕ) → Letter → Option ℕ
 found_at found letter = slice_index_or found (place_of letter) None
 
--- the letter's number was found
-abbrev pub IsKnown : List (Option ℕ) → Letter → Type 0
-IsKnown found letter = IsSome (found_at found letter)
-
 -- the form has the numbers that were found
 abbrev pub Agrees : List (Option ℕ) → Form → Type 0
 Agrees found form = (letter : Letter) → IfSome (found_at found letter) (λ value. value_of form letter ≡ value)
 
--- the token has a number for this letter
-abbrev pub IsLetterOf : Letter → Token → Type 0
-IsLetterOf letter (exactly bytes) = ⊥
-IsLetterOf letter (tagged bytes other) = letter ≡ other
-
--- this holds of one of the list
-abbrev pub OneOf : {X : Type 0} → (X → Type 0) → List X → Type 0
-OneOf P [] = ⊥
-OneOf P (x ∷ xs) = P x ⊎ OneOf P xs
-
--- one of the tokens has a number for this letter
-abbrev pub Mentions : Letter → List Token → Type 0
-Mentions letter tokens = OneOf (IsLetterOf letter) tokens
-
--- a part of the text was taken: where it holds for some form, what is found afterwards says for which, and the letters that it has a number for are known; and otherwise no form that agrees has it
-pub record Takes (old new : List (Option ℕ)) (fact : Form → Type 0) (letters : Letter → Type 0) (taken : Bool) : Type 0 where
+-- a part of the text was taken: where it holds for some form, what is found afterwards says for which; and otherwise no form that agrees has it
+pub record Takes (old new : List (Option ℕ)) (fact : Form → Type 0) (taken : Bool) : Type 0 where
   pub some : IsTrue taken → (form : Form) → Agrees new form ↔ (Agrees old form × fact form)
-  pub known : IsTrue taken → (letter : Letter) → IsKnown old letter ⊎ letters letter → IsKnown new letter
   pub none : taken ≡ false → (form : Form) → Agrees old form → fact form → ⊥
+
+-- the same, where the numbers are within their ranges besides: some form has those that were found
+pub record TakesFitting (old new : List (Option ℕ)) (fact : Form → Type 0) (taken : Bool) : Type 0 where
+  pub some : IsTrue taken → (form : Form) → Agrees new form ↔ (Agrees old form × fact form)
+  pub fits : IsTrue taken → (form : Form) × Agrees new form × IsForm form
+  pub none : taken ≡ false → (form : Form) → Agrees old form → fact form → IsForm form → ⊥

@@ -1,10 +1,11 @@
 -- What is answered and printed where a command isn't done.
 use Rattle.std.specs.Prelude.{◌≡◌, ◌⊎◌, ℕ, List, [], ◌∷◌, ◌++◌, codes}
 use Rattle.std.specs.Fmt.{decimal}
+use Rattle.ap_desc.specs.FaultTable.{code_of}
 use Rattle.ap_desk.specs.declared.desk.DeskFault.{DeskFault}
 use Rattle.ap_desk.specs.declared.desk.DeskFault.TheVariants.{Failed, Missing, NoMemory}
 use Rattle.ap_top.specs.declared.form.Judged.{Judged}
-use Rattle.ap_top.specs.declared.form.Judged.TheVariants.{TooLong, NotBuilt}
+use Rattle.ap_top.specs.declared.form.Judged.TheVariants as judged
 use Rattle.ap_top.specs.declared.form.ReadFault.{ReadFault}
 use Rattle.ap_top.specs.declared.form.ReadFault.TheVariants as reading
 use Rattle.ap_top.specs.declared.refusal.Stop.{Stop}
@@ -16,8 +17,8 @@ use Rattle.ap_top.specs.declared.refusal.Trouble.TheVariants.{Desk, Memory}
 
 -- the line and kind of a description's fault
 abbrev pub fault_text : Judged → List ℕ
-fault_text TooLong = codes "line 0: F5 TooLong"
-fault_text (NotBuilt line) = codes "line " ++ decimal line ++ codes ": F0 NotBuilt"
+fault_text (judged.Refused refusal) = codes "line " ++ decimal refusal.line ++ codes ": " ++ code_of refusal.kind
+fault_text (judged.NotBuilt line) = codes "line " ++ decimal line ++ codes ": F0 NotBuilt"
 
 abbrev pub refusal_text : Refusal → List ℕ
 refusal_text Usage = codes "usage"

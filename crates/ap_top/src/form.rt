@@ -1,14 +1,14 @@
-ghost use Rattle.std.specs.Prelude.{IfErr, IfNone, IfOk, IfSome, map};
+ghost use Rattle.std.specs.Prelude.{◌≡◌, IfErr, IfOk, map};
 ghost use Rattle.ap_text.specs.Spans.{AreLinesWithin, line_in};
-ghost use Rattle.ap_top.specs.Form.{AreLines, IsDescription, IsForm, IsReadFault, first_form};
+ghost use Rattle.ap_top.specs.Form.{AreLines, IsDescription, IsForm, IsNotBuilt, IsReadFault, first_form, reading_of};
+ghost use Rattle.ap_top.specs.declared.form.ReadFault.TheVariants as fault;
 
 use crate::numbers::Numbers;
 use crate::pattern;
+use ap_desc::{DescFault, Refusal};
+use ap_read::read;
 use ap_text::{Line, lines};
 use std::alloc::Global;
-
-/// The most bytes that a description may have.
-pub const DESCRIPTION_LIMIT: usize = 1_048_576;
 
 /// A description of the first form: its six numbers.
 #[derive(Clone, Copy, Debug, PartialEq, Eq)]
@@ -30,11 +30,11 @@ pub struct Form {
 /// A fault of a description.
 #[derive(Clone, Copy, Debug, PartialEq, Eq)]
 pub enum Judged {
-    /// It has more than 1,048,576 bytes.
-    TooLong,
-    /// It is of no form that is built.
+    /// This is its least fault.
+    Refused(Refusal),
+    /// It has none, but is of no form that is built.
     NotBuilt {
-        /// The line that is named, which is 0 today.
+        /// The first line that isn't the one due, or 0 where all are and there are too few.
         line: u32,
     },
 }
@@ -48,40 +48,63 @@ pub enum ReadFault {
     NoMemory,
 }
 
+impl From<DescFault> for ReadFault {
+    ghost from_gives = { λ fault given. given ≡ reading_of fault };
+
+    fn from(fault: DescFault) -> ReadFault {
+        match fault {
+            DescFault::Refused(refusal) => ReadFault::Refused(Judged::Refused(refusal)),
+            DescFault::NoMemory => ReadFault::NoMemory,
+        }
+    }
+}
+
+impl From<ap_text::NoMemory> for ReadFault {
+    ghost from_gives = { λ _ given. given ≡ fault.NoMemory };
+
+    fn from(_: ap_text::NoMemory) -> ReadFault {
+        ReadFault::NoMemory
+    }
+}
+
+impl From<Judged> for ReadFault {
+    ghost from_gives = { λ judged given. given ≡ fault.Refused judged };
+
+    fn from(judged: Judged) -> ReadFault {
+        ReadFault::Refused(judged)
+    }
+}
+
 /// The form of a description.
 ///
-/// A text of more than 1,048,576 bytes is `TooLong`. Any other text that isn't of the first form is `NotBuilt`, at line 0.
+/// Where the text has a fault of form, it is `Refused` for the least one. Any other text that isn't of the first form is
+/// `NotBuilt`, at the first line whose tokens aren't those due, or at line 0 where the text ends before the fifteen lines.
 pub fn judge(alloc: Global, text: &[u8]) -> Result<Form, ReadFault>
     ensures form { IfOk result (IsDescription text.now) }
     ensures refused { IfErr result (IsReadFault text.now) }
 {
-    if text.len() > DESCRIPTION_LIMIT {
-        return Err(ReadFault::Refused(Judged::TooLong));
-    }
-    let Ok(lines) = lines(alloc, text) else {
-        return Err(ReadFault::NoMemory);
-    };
-    match read_form(text, lines.as_slice()) {
-        Some(form) => Ok(form),
-        None => Err(ReadFault::Refused(Judged::NotBuilt { line: 0 })),
-    }
+    let _ = read(alloc, text)?;
+    let list = lines(alloc, text)?;
+    let form = read_form(text, list.as_slice())?;
+    Ok(form)
 }
 
-/// The first form with the numbers of these lines, if they are its lines.
-fn read_form(text: &[u8], lines: &[Line]) -> Option<Form>
+/// The first form with the numbers of these lines, or where they aren't its lines.
+fn read_form(text: &[u8], lines: &[Line]) -> Result<Form, Judged>
     requires { AreLinesWithin text.now lines.now }
-    ensures some { IfSome result (λ form. AreLines form first_form (map (line_in text.now) lines.now) × IsForm form) }
-    ensures none { IfNone result ((form : Form) → AreLines form first_form (map (line_in text.now) lines.now) → IsForm form → ⊥) }
+    ensures form { IfOk result (λ form. AreLines form first_form (map (line_in text.now) lines.now) × IsForm form) }
+    ensures not_built { IfErr result (IsNotBuilt (map (line_in text.now) lines.now)) }
 {
     let due = pattern::first_form();
-    if lines.len() != due.len() {
-        return None;
-    }
     let mut numbers = Numbers::new();
-    for (i, pieces) in due.iter().enumerate() {
-        if !numbers.take_line(text, &lines[i], pieces) {
-            return None;
+    for (i, line) in lines.iter().enumerate() {
+        if i == due.len() || !numbers.fit_line(text, line, due[i]) {
+            return Err(Judged::NotBuilt { line: line.number });
         }
     }
-    numbers.form()
+    if lines.len() < due.len() {
+        return Err(Judged::NotBuilt { line: 0 });
+    }
+    let form = numbers.form().unwrap();
+    Ok(form)
 }

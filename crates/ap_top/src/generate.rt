@@ -6,10 +6,11 @@ ghost use Rattle.ap_top.specs.Outputs.{FromGood, Writes};
 ghost use Rattle.ap_top.specs.Troubles.{IsCaused, StopsOn, desk_stop};
 
 use crate::design::design_text;
-use crate::form::{DESCRIPTION_LIMIT, judge};
+use crate::form::judge;
 use crate::refusal::Stop;
 use ap_desk::desk::Desk;
 use ap_desk::pieces::{read_all, write_all};
+use ap_read::DESCRIPTION_LIMIT;
 use std::alloc::Global;
 
 /// Reads the description, judges it, and writes the processor in Verilog.

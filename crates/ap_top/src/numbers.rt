@@ -1,9 +1,9 @@
-ghost use Rattle.std.specs.Prelude.{◌≡◌, ◌≢◌, ◌≤◌, ◌<◌, ◌^◌, ◌↔◌, ◌++◌, ℕ, List, MatchOption, IfNone, IfSome, IsTrue, Some, map};
+ghost use Rattle.std.specs.Prelude.{◌≡◌, ◌≢◌, ◌≤◌, ◌<◌, ◌^◌, ◌↔◌, ◌++◌, ℕ, List, MatchOption, IfNone, IfSome, IsTrue, Some, map, unwrap_or};
 ghost use Rattle.std.specs.Option.{SomeIff};
 ghost use Rattle.ap_text.specs.Numbers.{number_value};
 ghost use Rattle.ap_text.specs.Spans.{IsLineWithin, line_in};
 ghost use Rattle.ap_top.specs.Form.{AreValuesFitting, IsForm, IsLine, IsToken, value_of};
-ghost use Rattle.ap_top.specs.Found.{Agrees, IsKnown, IsLetterOf, Mentions, Takes, found_at, token_of};
+ghost use Rattle.ap_top.specs.Found.{Agrees, Takes, TakesFitting, found_at, token_of};
 
 use crate::form::Form;
 use crate::pattern::{Letter, Piece};
@@ -24,10 +24,18 @@ impl Numbers {
         Numbers { found: [None; 6] }
     }
 
-    /// Takes the tokens of a line, where they are those due.
-    pub(crate) fn take_line(&mut self, text: &[u8], line: &Line, pieces: &[Piece]) -> bool
+    /// Takes the tokens of a line, where they are those due and some form has all numbers that were found.
+    pub(crate) fn fit_line(&mut self, text: &[u8], line: &Line, pieces: &[Piece]) -> bool
         requires { IsLineWithin text.now line.now }
-        ensures { Takes self.old.found self.new.found (λ form. IsLine form (map token_of pieces.now) (line_in text.now line.now)) (λ letter. Mentions letter (map token_of pieces.now)) result }
+        ensures { TakesFitting self.old.found self.new.found (λ form. IsLine form (map token_of pieces.now) (line_in text.now line.now)) result }
+    {
+        self.take_line(text, line, pieces) && self.form().is_some()
+    }
+
+    /// Takes the tokens of a line, where they are those due.
+    fn take_line(&mut self, text: &[u8], line: &Line, pieces: &[Piece]) -> bool
+        requires { IsLineWithin text.now line.now }
+        ensures { Takes self.old.found self.new.found (λ form. IsLine form (map token_of pieces.now) (line_in text.now line.now)) result }
     {
         if !line.clean || line.tokens.len() != pieces.len() {
             return false;
@@ -42,7 +50,7 @@ impl Numbers {
 
     /// Takes a token, where it is the one due.
     fn take_token(&mut self, token: &[u8], piece: Piece) -> bool
-        ensures { Takes self.old.found self.new.found (λ form. IsToken form (token_of piece) token.now) (λ letter. IsLetterOf letter (token_of piece)) result }
+        ensures { Takes self.old.found self.new.found (λ form. IsToken form (token_of piece) token.now) result }
     {
         match piece {
             Piece::Exactly(text) => token == text.as_bytes(),
@@ -56,7 +64,7 @@ impl Numbers {
 
     /// Takes a number for the letter, where the digits are one and the letter has no other yet.
     fn take_number(&mut self, digits: &[u8], letter: Letter) -> bool
-        ensures { Takes self.old.found self.new.found (λ form. number_value digits.now ≡ Some (value_of form letter)) (λ other. other ≡ letter) result }
+        ensures { Takes self.old.found self.new.found (λ form. number_value digits.now ≡ Some (value_of form letter)) result }
     {
         match number(digits) {
             Ok(value) => self.take(letter, value),
@@ -66,7 +74,7 @@ impl Numbers {
 
     /// Takes the value for the letter, where it has no other yet.
     fn take(&mut self, letter: Letter, value: u64) -> bool
-        ensures { Takes self.old.found self.new.found (λ form. value_of form letter ≡ value) (λ other. other ≡ letter) result }
+        ensures { Takes self.old.found self.new.found (λ form. value_of form letter ≡ value) result }
     {
         let place = letter.place();
         match self.found[place] {
@@ -78,27 +86,25 @@ impl Numbers {
         }
     }
 
-    /// The value of a letter.
-    fn value(&self, letter: Letter) -> u64
-        requires { IsKnown self.now.found letter }
-        ensures { found_at self.now.found letter ≡ Some result }
+    /// The value of a letter, if it was found, and else this one.
+    fn value_or(&self, letter: Letter, other: u64) -> u64
+        ensures { result ≡ unwrap_or (found_at self.now.found letter) other }
     {
-        self.found[letter.place()].unwrap()
+        self.found[letter.place()].unwrap_or(other)
     }
 
-    /// The form with these numbers, if they are within their ranges.
+    /// A form that has the numbers found, within their ranges, if there is one. What isn't found yet restricts the others least.
     pub(crate) fn form(&self) -> Option<Form>
-        requires { (letter : Letter) → IsKnown self.now.found letter }
         ensures some { IfSome result (λ form. Agrees self.now.found form × IsForm form) }
         ensures none { IfNone result ((form : Form) → Agrees self.now.found form → IsForm form → ⊥) }
     {
         let form = Form {
-            address: narrow(self.value(Letter::Address), 4, 16)?,
-            word: narrow(self.value(Letter::Word), 8, 64)?,
-            width: narrow(self.value(Letter::Width), 1, 64)?,
-            start: self.value(Letter::Start),
-            code: self.value(Letter::Code),
-            constant: self.value(Letter::Constant),
+            address: narrow(self.value_or(Letter::Address, 4), 4, 16)?,
+            word: narrow(self.value_or(Letter::Word, 64), 8, 64)?,
+            width: narrow(self.value_or(Letter::Width, 64), 1, 64)?,
+            start: self.value_or(Letter::Start, 0),
+            code: self.value_or(Letter::Code, 1),
+            constant: self.value_or(Letter::Constant, 0),
         };
         if are_values_fitting(&form) {
             Some(form)

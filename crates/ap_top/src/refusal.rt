@@ -33,7 +33,11 @@ impl fmt::Display for Judged {
 
     fn fmt<W: fmt::Write>(&self, f: &mut fmt::Formatter<W>) -> fmt::Result {
         match self {
-            Judged::TooLong => write!(f, "line 0: F5 TooLong"),
+            Judged::Refused(refusal) => {
+                let line = refusal.line;
+                let code = refusal.kind.code();
+                write!(f, "line {line}: {code}")
+            }
             Judged::NotBuilt { line } => write!(f, "line {line}: F0 NotBuilt"),
         }
     }

@@ -1,9 +1,9 @@
-use Rattle.std.proofs.Common.{◌≡◌, refl, lit≤, lit<}
+use Rattle.std.proofs.Common.{refl, lit≤, lit<}
 use Rattle.std.specs.Prelude.{codes}
 use Rattle.ap_text.specs.Lines.{lines_of}
 use Rattle.ap_text.specs.Numbers.{number_value, spelled_value}
 use Rattle.ap_top.specs.Form.{AreLines, first_form}
-use Rattle.ap_top.specs.Example.{example_form, example_text}
+use Rattle.ap_top.specs.Example.{example_form, example_statements, example_text}
 use Rattle.ap_top.proofs.example.example_description.Goals as goal
 
 lines : AreLines example_form first_form (lines_of example_text)
@@ -57,7 +57,7 @@ lines = (
 
 pub returns : goal.returns
 returns c = record {
-  within = lit≤ tt;
+  faultless = c.descriptions_are_faultless.ensures example_text example_statements (lit≤ tt) c.example_reading.ensures.description c.example_reading.ensures.reads;
   first = record {
     lines = lines;
     ranges = record {

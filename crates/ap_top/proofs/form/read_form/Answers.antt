@@ -1,36 +1,43 @@
-use Rattle.std.proofs.Common.{◌<◌, ◌≤◌, length, map, arith, refl, inr}
+use Rattle.std.proofs.Common.{◌<◌, ◌≤◌, length, map, ◌++◌, ◌∷◌, [], take, arith}
 use Rattle.std.proofs.Math.ListN.{length-map}
 use Rattle.ap_text.specs.Spans.{line_in}
 use Rattle.ap_text.proofs.Laws.{IsLineWithin-item}
-use Rattle.ap_top.specs.Form.{IsLine, first_form}
-use Rattle.ap_top.specs.Found.{Mentions}
-use Rattle.ap_top.proofs.Matching.{left_step, left_stop, left_end, line_from, views_at, mentioned, form_some, form_none}
+use Rattle.ap_top.specs.Form.{BeginForm}
+use Rattle.ap_top.proofs.Fronts.{begun_more, begun_none, due_after, form_of_all, line_after, line_split, line_too_many, stops_at, wrong_line}
+use Rattle.ap_top.proofs.Ranges.{form_at}
 use Rattle.ap_top.proofs.form.read_form.Goals as goal
+use Rattle.ap_top.proofs.form.read_form.Goals.{then-i-eq15-via-then-i-eq15, then-i-eq15-via-else-i-eq15+then-not-fit_line}
 
-pub take_line-requires : goal.take_line-requires
-take_line-requires c = IsLineWithin-item _ c.args.lines.now c.loop-i.i _ (omega (arith, c.if-lines-ne15.false)) c.index-lines-i.is c.requires
+pub loop-i-init : goal.loop-i-init
+loop-i-init c = begun_none _ _ c.new-numbers.ensures
 
-pub returns-then-not-take_line-clause-none : goal.returns-then-not-take_line-clause-none
-returns-then-not-take_line-clause-none c = λ form lines ranges.
-    let there : c.loop-i.i < length c.args.lines.now = omega (arith, c.if-lines-ne15.false) in
-    left_stop IsLine Mentions _ _ _ _ _ _ _ _ (line_from _ c.loop-i.i _ c.first_form-due.ensures c.loop-i-test.true) (views_at (line_in c.args.text.now) _ _ _ there c.index-lines-i.is) c.loop-i.invariant (rw c.if-not-take_line.true at c.take_line.ensures) form (c.new-numbers.ensures form) lines
+pub fit_line-requires : goal.fit_line-requires
+fit_line-requires c = IsLineWithin-item _ _ c.loop-i.i _ c.loop-i-test.true c.index-lines-i.is c.requires
+
+pub returns-then-i-eq15-clause-not_built : goal.returns-then-i-eq15-clause-not_built
+returns-then-i-eq15-clause-not_built c =
+    let lines = map (line_in c.args.text.now) c.args.lines.now in
+    let line = line_in c.args.text.now c.index-lines-i.result in
+    let there : c.loop-i.i < length lines = simp length-map c.loop-i-test.true in
+    let ends : BeginForm (take c.loop-i.i lines ++ line ∷ []) → ⊥ = elim c.then-i-eq15.branch [
+      | then-i-eq15-via-then-i-eq15 w ↦ line_too_many lines c.loop-i.i line w.if-i-eq15.true there
+      | then-i-eq15-via-else-i-eq15+then-not-fit_line w ↦
+          let next : c.loop-i.i < 15 = omega (arith, w.if-i-eq15.false) in
+          wrong_line _ _ lines c.loop-i.i _ line there (due_after c.first_form-due.result c.loop-i.i _ c.first_form-due.ensures next) c.loop-i.invariant (rw w.if-not-fit_line.true at w.fit_line.ensures)
+    ] in
+    stops_at lines c.loop-i.i line _ (line_split c.args.text.now c.args.lines.now c.loop-i.i _ c.loop-i-test.true c.index-lines-i.is) c.loop-i.invariant.begun ends
 
 pub loop-i-preserved : goal.loop-i-preserved
 loop-i-preserved c =
-    let there : c.loop-i.i < length c.args.lines.now = omega (arith, c.if-lines-ne15.false) in
-    left_step IsLine Mentions _ _ _ _ _ _ _ _ (line_from _ c.loop-i.i _ c.first_form-due.ensures c.loop-i-test.true) (views_at (line_in c.args.text.now) _ _ _ there c.index-lines-i.is) c.loop-i.invariant (rw c.if-not-take_line.false at c.take_line.ensures)
+    let lines = map (line_in c.args.text.now) c.args.lines.now in
+    let line = line_in c.args.text.now c.index-lines-i.result in
+    let there : c.loop-i.i < length lines = simp length-map c.loop-i-test.true in
+    let next : c.loop-i.i < 15 = omega (arith, c.if-i-eq15.false) in
+    begun_more _ _ lines c.loop-i.i _ line next there (due_after c.first_form-due.result c.loop-i.i _ c.first_form-due.ensures next) (line_after c.args.text.now c.args.lines.now c.loop-i.i _ c.loop-i-test.true c.index-lines-i.is) c.loop-i.invariant
+    (rw c.if-not-fit_line.false at c.fit_line.ensures)
 
-pub form-requires : goal.form-requires
-form-requires c = λ letter.
-    let past : length (map (line_in c.args.text.now) c.args.lines.now) ≤ c.loop-i.i = simp length-map (omega (arith, c.if-lines-ne15.false)) in
-    (left_end IsLine Mentions _ _ first_form _ _ c.loop-i-test.false past c.loop-i.invariant).known refl letter (inr (mentioned letter))
-
-pub returns-clause-some : goal.returns-clause-some
-returns-clause-some c =
-    let past : length (map (line_in c.args.text.now) c.args.lines.now) ≤ c.loop-i.i = simp length-map (omega (arith, c.if-lines-ne15.false)) in
-    form_some c.form.result _ _ _ _ (left_end IsLine Mentions _ _ first_form _ _ c.loop-i-test.false past c.loop-i.invariant) c.form.ensures.some
-
-pub returns-clause-none : goal.returns-clause-none
-returns-clause-none c =
-    let past : length (map (line_in c.args.text.now) c.args.lines.now) ≤ c.loop-i.i = simp length-map (omega (arith, c.if-lines-ne15.false)) in
-    form_none c.form.result _ _ _ _ c.new-numbers.ensures (left_end IsLine Mentions _ _ first_form _ _ c.loop-i-test.false past c.loop-i.invariant) c.form.ensures.none
+pub returns-clause-form : goal.returns-clause-form
+returns-clause-form c =
+    let past : length (map (line_in c.args.text.now) c.args.lines.now) ≤ c.loop-i.i = simp length-map c.loop-i-test.false in
+    let both = form_at _ _ _ c.unwrap-form.ensures c.form.ensures.some in
+    (form_of_all _ _ c.loop-i.i _ past (omega (arith, c.if-lines-lt15.false)) c.loop-i.invariant both.0, both.1)

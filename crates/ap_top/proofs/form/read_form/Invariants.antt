@@ -1,10 +1,8 @@
 use Rattle.std.proofs.Common.{map}
 use Rattle.ap_text.specs.Spans.{line_in}
-use Rattle.ap_top.specs.Form.{IsLine, first_form}
-use Rattle.ap_top.specs.Found.{Mentions}
-use Rattle.ap_top.proofs.Matching.{Left}
+use Rattle.ap_top.proofs.Fronts.{Begun}
 use Rattle.ap_top.proofs.form.read_form.Given as goal
 
--- with the lines so far the rest decides for the whole text
+-- the lines so far begin the form, with the numbers that were found
 abbrev pub invariant-loop-i : goal.invariant-loop-i
-invariant-loop-i l = Left IsLine Mentions l.initial.numbers.found l.numbers.found first_form (map (line_in l.text) l.lines) l.i
+invariant-loop-i l = Begun l.numbers.found (map (line_in l.text) l.lines) l.i

@@ -1,0 +1,7 @@
+use Rattle.std.proofs.Common.{◌≡◌, ◌++◌, option_map, drop}
+use Rattle.ap_read.specs.Parts.{fields_in, texts}
+use Rattle.ap_read.proofs.parts.fields_in.Given as goal
+
+-- the fields so far and those of the tokens left are those of all
+abbrev pub invariant-loop-token : goal.invariant-loop-token
+invariant-loop-token l = option_map (λ rest. l.fields ++ rest) (fields_in l.separator (texts (drop l.token-index l.tokens))) ≡ fields_in l.separator (texts l.tokens)
