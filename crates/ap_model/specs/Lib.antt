@@ -1,0 +1,12 @@
+pub mod Cycles
+pub mod DesignShape
+pub mod Examples
+pub mod Fire
+pub mod Landings
+pub mod Ports
+pub mod Sequence
+pub mod ShownRows
+pub mod Stalls
+pub mod States
+pub mod Stored
+pub mod WritesOf
