@@ -1,6 +1,6 @@
 -- The processor on which the machines are worked out: four stages, a file of eight cells of 16 bits, a data memory, an input port,
 -- three units and eleven instructions. Line numbers are those of its text, in the order of the lists below.
-use Rattle.std.specs.Prelude.{ℕ, ◌+◌, ◌++◌, List, [], ◌∷◌, codes, Some, None, true, false}
+use Rattle.std.specs.Prelude.{ℕ, ◌+◌, ◌++◌, List, [], ◌∷◌, codes, replicate, Some, None, true, false}
 use Rattle.ap_bits.specs.declared.card.Card.{Card}
 use Rattle.ap_bits.specs.declared.card.OpCard.{OpCard}
 use Rattle.ap_bits.specs.declared.card.Latency.TheVariants.{One, WidthPlusOne}
@@ -288,9 +288,38 @@ seti = record {
 abbrev pub two_ports : Design
 two_ports = record processor { files = gpr 2 ∷ []; instrs = processor.instrs ++ seti ∷ [] }
 
+-- instr LDE J op=9 z=0: v = EM.read t in stage 1, GPR.w0 rd v in stage 3
+abbrev pub lde : Instr
+lde = record {
+  name = codes "LDE";
+  line = 77;
+  format = 2;
+  fixed = Some 9 ∷ None ∷ Some 0 ∷ None ∷ [];
+  fixed_mask = 0xf1c0;
+  fixed_value = 0x9000;
+  locals = 16 ∷ [];
+  micros = line 78 1 (act.ReadMem 1 t) ∷ line 79 3 (act.WriteFile 0 0 rd (arg.Local 0) None) ∷ [];
+}
+
+-- the same with a second memory, which LDE reads in stage 1
+abbrev pub two_memories : Design
+two_memories = record processor { mems = processor.mems ++ record { name = codes "EM"; address = 6; width = 16 } ∷ []; instrs = processor.instrs ++ lde ∷ [] }
+
+-- 6 and 7 to cells 1 and 2, their product to cell 3, and word 2 of the second memory, which is 9, to cell 4
+abbrev pub waiting_image : Image
+waiting_image = record { code = 0x2206 ∷ 0x2407 ∷ 0x0 ∷ 0x0 ∷ 0x1651 ∷ 0x9802 ∷ []; mems = [] ∷ (0 ∷ 0 ∷ 9 ∷ []) ∷ [] }
+
+-- six lines without a wait, and then twenty with it
+abbrev pub waiting_trace : Trace
+waiting_trace = record { lines = replicate 6 (record { wait = false; ports = 0 ∷ [] }) ++ replicate 20 (record { wait = true; ports = 0 ∷ [] }) }
+
 -- words without data
 abbrev pub code_of : List ℕ → Image
 code_of words = record { code = words; mems = [] ∷ [] }
+
+-- a branch to 8 at 0, on a cell that is 0; additions that set cells 1, 2 and 3 at 1, 2 and 8
+abbrev pub branch_code : Image
+branch_code = code_of (0x5008 ∷ 0x2201 ∷ 0x2402 ∷ 0 ∷ 0 ∷ 0 ∷ 0 ∷ 0 ∷ 0x2603 ∷ [])
 
 -- a jump to 8 at 0, which writes the address after its slot to cell 7; input reads to cells 1, 2 and 3 at 1, 2 and 8
 abbrev pub jump_code : Image

@@ -2,7 +2,7 @@
 ghost use Rattle.std.specs.Prelude.{◌≡◌, ◌++◌, [], ◌∷◌, replicate};
 ghost use Rattle.ap_desc.specs.Shelf.{IsOfCards};
 ghost use Rattle.ap_desc.specs.Sound.{IsEncoded, IsSound};
-ghost use Rattle.ap_model.specs.Examples.{example_cards, processor, two_ports, code_of, no_trace, inputs_567, jump_code, run, stall, kill, cell, two_cells, logged, pass};
+ghost use Rattle.ap_model.specs.Examples.{example_cards, processor, two_ports, two_memories, code_of, waiting_image, waiting_trace, no_trace, inputs_567, branch_code, jump_code, run, stall, kill, cell, two_cells, logged, pass};
 ghost use Rattle.ap_model.specs.Landings.{LandsOn, passed, samples};
 ghost use Rattle.ap_model.specs.Sequence.{sequential};
 ghost use Rattle.ap_model.specs.ShownRows.{rows_of};
@@ -12,6 +12,7 @@ fn sound_processor()
     ensures sound { IsSound processor }
     ensures cards { IsOfCards processor example_cards }
     ensures two_ports { IsSound two_ports }
+    ensures two_memories { IsSound two_memories }
 {}
 
 /// Two additions with two words between: the second one reads what the first has written. With one word between it reads the old
@@ -31,9 +32,19 @@ fn multiplication()
     ensures { rows_of processor example_cards (code_of (0x2206 ∷ 0x2407 ∷ 0x0 ∷ 0x0 ∷ 0x1651 ∷ [])) no_trace 24 ≡ run ∷ run ∷ run ∷ cell 1 6 ∷ cell 2 7 ∷ run ∷ replicate 16 stall ++ run ∷ cell 3 42 ∷ [] }
 {}
 
+/// The product is held past the multiplication's end, while another stage waits for a memory.
+fn multiplication_and_wait()
+    ensures { rows_of two_memories example_cards waiting_image waiting_trace 29 ≡ run ∷ run ∷ run ∷ cell 1 6 ∷ cell 2 7 ∷ run ∷ replicate 20 stall ++ run ∷ cell 3 42 ∷ cell 4 9 ∷ [] }
+{}
+
 /// The younger instruction writes last of two that write one cell in one cycle, and both are shown.
 fn two_writes()
     ensures { rows_of two_ports example_cards (code_of (0x2205 ∷ 0xb209 ∷ 0x0 ∷ 0x1448 ∷ [])) no_trace 8 ≡ run ∷ run ∷ run ∷ two_cells 1 5 1 9 ∷ run ∷ run ∷ cell 2 18 ∷ run ∷ [] }
+{}
+
+/// A branch that is taken, with one slot: the word in the slot runs, and the word after it is killed.
+fn branch_with_slot()
+    ensures { rows_of processor example_cards branch_code no_trace 7 ≡ run ∷ run ∷ kill ∷ run ∷ cell 1 1 ∷ run ∷ cell 3 3 ∷ [] }
 {}
 
 /// After address 63 comes address 0: the one instruction of the program runs a second time.
