@@ -3,6 +3,7 @@ pub mod DesignShape
 pub mod Examples
 pub mod Fire
 pub mod Landings
+pub mod OneCount
 pub mod Ports
 pub mod Sequence
 pub mod ShownRows

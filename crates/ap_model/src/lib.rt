@@ -5,6 +5,7 @@
 //! `specs/Sequence.antt`. The types here are those that the definitions speak of.
 #![tactic(auto)]
 
+pub mod laws;
 pub mod row;
 pub mod sequence;
 pub mod state;
