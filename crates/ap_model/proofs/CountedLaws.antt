@@ -159,7 +159,7 @@ same_passes design cards inputs held state course = same_told _ held (λ stage f
 same_next : (design : Design) (held : ℕ) (state : State) (course : Course) → next_number design (waiting_state held state) course ≡ next_number design state course
 same_next design held state course =
     let numbers : unkilled_numbers design (waiting_state held state) course ≡ unkilled_numbers design state course =
-    ap (λ ns. ns ++ (if is_killed design course 0 then [] else state.next ∷ [])) (same_told _ held (λ stage flight. refl) 1 state.flights) in
+    ap (λ ns. ns ++ (if course.held 0 || is_killed design course 0 then [] else state.next ∷ [])) (same_told _ held (λ stage flight. refl) 1 state.flights) in
     ap (λ ns. if is_some course.taken then fold max 0 ns + 1 else if course.held 0 then state.next else state.next + 1) numbers
 
 step_free : (design : Design) (cards : List Card) (image : Image) (inputs : TraceLine) (held : ℕ) (state : State) (taken : Option ℕ)

@@ -127,7 +127,7 @@ next_pc design state course = if course.held 0 then state.pc else unwrap_or cour
 -- the numbers of the flights that aren't killed, the word being fetched among them
 abbrev pub unkilled_numbers : Design → State → Course → List ℕ
 unkilled_numbers design state course =
-    from_last (λ stage (flight : Flight). if is_killed design course stage then [] else flight.number ∷ []) 1 state.flights ++ (if is_killed design course 0 then [] else state.next ∷ [])
+    from_last (λ stage (flight : Flight). if is_killed design course stage then [] else flight.number ∷ []) 1 state.flights ++ (if course.held 0 || is_killed design course 0 then [] else state.next ∷ [])
 
 -- the next number after a cycle: one more than the greatest that wasn't killed where a transfer was taken; else it goes on with each
 -- fetched word

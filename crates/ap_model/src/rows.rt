@@ -27,7 +27,17 @@ fn additions_in_sequence()
     ensures { (sequential processor example_cards (code_of (0x2205 ∷ 0x0 ∷ 0x0 ∷ 0x1448 ∷ [])) [] 4).log ≡ logged 0 1 5 ∷ logged 3 2 10 ∷ [] }
 {}
 
-/// A multiplication of 16 bits takes 17 cycles: all stages are held for 16 of them.
+/// A word that matches no instruction does nothing.
+fn no_instruction()
+    ensures { rows_of processor example_cards (code_of (0x0001 ∷ [])) no_trace 6 ≡ replicate 6 run }
+{}
+
+/// A multiplication of 16 bits takes 17 cycles: all stages are held for 16 of them, that of the older addition too.
+fn multiplication_and_addition()
+    ensures { rows_of processor example_cards (code_of (0x2206 ∷ 0x2407 ∷ 0x0 ∷ 0x2805 ∷ 0x1651 ∷ [])) no_trace 24 ≡ run ∷ run ∷ run ∷ cell 1 6 ∷ cell 2 7 ∷ run ∷ replicate 16 stall ++ cell 4 5 ∷ cell 3 42 ∷ [] }
+{}
+
+/// The same without the addition.
 fn multiplication()
     ensures { rows_of processor example_cards (code_of (0x2206 ∷ 0x2407 ∷ 0x0 ∷ 0x0 ∷ 0x1651 ∷ [])) no_trace 24 ≡ run ∷ run ∷ run ∷ cell 1 6 ∷ cell 2 7 ∷ run ∷ replicate 16 stall ++ run ∷ cell 3 42 ∷ [] }
 {}
