@@ -1,4 +1,9 @@
+pub mod Apart
+pub mod Behind
 pub mod Decimals
+pub mod LeastFaults
+pub mod LineTests
+pub mod Loops
 pub mod NotSpelled
 pub mod PlainTokens
 pub mod ReadOnce

@@ -1,13 +1,15 @@
 -- Two example descriptions, on which the other definitions are worked out: the smallest one, of two stages and the instruction
 -- NOP alone, and one of four stages that adds two cells of a file.
-use Rattle.std.specs.Prelude.{List, [], ◌∷◌, ◌++◌, codes, Some, None}
+use Rattle.std.specs.Prelude.{List, [], ◌∷◌, ◌++◌, map, codes, Some, None}
 use Rattle.ap_bits.specs.declared.card.Card.{Card}
 use Rattle.ap_bits.specs.declared.card.Latency.TheVariants.{One}
 use Rattle.ap_bits.specs.declared.card.Widths.TheVariants.{Any}
 use Rattle.ap_bits.specs.declared.term.BinOp.TheVariants as two
 use Rattle.ap_bits.specs.declared.term.Term.{Bin, A, B}
 use Rattle.ap_desc.specs.declared.description.Numbered.{Numbered}
+use Rattle.ap_desc.specs.declared.statement.FieldNumber.{FieldNumber}
 use Rattle.ap_desc.specs.declared.statement.Statement.TheVariants as s
+use Rattle.ap_desc.specs.declared.statement.Word.TheVariants.{Named}
 use Rattle.ap_desc.specs.declared.design.Design.{Design}
 use Rattle.ap_desc.specs.declared.design.Field.{Field}
 use Rattle.ap_desc.specs.declared.design.Instr.{Instr}
@@ -103,3 +105,22 @@ adder_design = record {
 -- the card of a kind that adds
 abbrev pub adder_card : Card
 adder_card = record { name = codes "alu"; ops = record { name = codes "add"; term = Bin two.Add A B } ∷ []; widths = Any; latency = One }
+
+-- the fields of a code word of the adder, as a format has them
+abbrev pub adder_format : List FieldNumber
+adder_format =
+    record { field = codes "op"; number = 4 } ∷ record { field = codes "rd"; number = 3 } ∷ record { field = codes "rs"; number = 3 }
+    ∷ record { field = codes "rt"; number = 3 } ∷ record { field = codes "fn"; number = 3 } ∷ []
+
+-- the statements of the adder
+abbrev pub adder_statements : List Numbered
+adder_statements =
+    record { line = 1; statement = s.Stages 4 } ∷ record { line = 2; statement = s.Address 6 } ∷ record { line = 3; statement = s.Word 16 }
+    ∷ record { line = 4; statement = s.Transfer 2 1 } ∷ record { line = 5; statement = s.File (codes "GPR") 16 8 2 1 }
+    ∷ record { line = 6; statement = s.Unit (codes "ALU") (codes "alu") 16 } ∷ record { line = 7; statement = s.Format (codes "R") adder_format }
+    ∷ record { line = 8; statement = s.Instr (codes "NOP") (codes "R") (map (λ (f : FieldNumber). record f { number = 0 }) adder_format) } ∷ record { line = 9; statement = s.End }
+    ∷ record { line = 10; statement = s.Instr (codes "ADD") (codes "R") (record { field = codes "op"; number = 1 } ∷ record { field = codes "fn"; number = 0 } ∷ []) }
+    ∷ record { line = 11; statement = s.ReadFile 1 (codes "a") (codes "GPR") 0 (Named (codes "rs")) }
+    ∷ record { line = 12; statement = s.ReadFile 1 (codes "b") (codes "GPR") 1 (Named (codes "rt")) }
+    ∷ record { line = 13; statement = s.Compute 2 (codes "s") (codes "ALU") (codes "add") (Named (codes "a")) (Named (codes "b")) }
+    ∷ record { line = 14; statement = s.WriteFile 3 (codes "GPR") 0 (Named (codes "rd")) (Named (codes "s")) None } ∷ record { line = 15; statement = s.End } ∷ []

@@ -1,24 +1,18 @@
 -- Designs that are sound: what their lines name is there, names differ, and every operand has the width that is needed. Designs
 -- whose words are without fault.
-use Rattle.std.specs.Prelude.{◌≡◌, ℕ, ◌+◌, ◌^◌, ◌<◌, ◌==◌, ◌&&◌, nat_le, nat_lt, not, Bool, true, IsTrue, List, [], ◌∷◌, ◌++◌, map, sum_by, Option, slice_get, IsSomeAnd}
+use Rattle.std.specs.Prelude.{◌≡◌, ℕ, ◌^◌, ◌<◌, ◌&&◌, nat_lt, not, Bool, true, IsTrue, List, [], ◌∷◌, ◌++◌, map, sum_by, Option, slice_get, IsSomeAnd}
 use Rattle.std.specs.List.{AllByRecursion as Each, list_all, list_any, zip}
 use Rattle.std.specs.Option.{option_map_or}
 use Rattle.std.specs.Str.{bytes_eq}
 use Rattle.ap_desc.specs.declared.design.Design.{Design}
-use Rattle.ap_desc.specs.declared.design.Reg.{Reg}
-use Rattle.ap_desc.specs.declared.design.File.{File}
-use Rattle.ap_desc.specs.declared.design.Mem.{Mem}
-use Rattle.ap_desc.specs.declared.design.InPort.{InPort}
-use Rattle.ap_desc.specs.declared.design.Unit.{Unit as Resource}
 use Rattle.ap_desc.specs.declared.design.Format.{Format}
 use Rattle.ap_desc.specs.declared.design.Field.{Field}
 use Rattle.ap_desc.specs.declared.design.Instr.{Instr}
 use Rattle.ap_desc.specs.declared.design.Micro.{Micro}
-use Rattle.ap_desc.specs.declared.design.Arg.{Arg}
-use Rattle.ap_desc.specs.declared.design.Act.{Act}
-use Rattle.ap_desc.specs.declared.design.Act.TheVariants as act
+use Rattle.ap_desc.specs.Designs.{Matches, IsWithin, names_in, lines_in, is_named_nop, Rise, ArePlaced, IsRight, arg_width}
+use Rattle.ap_desc.specs.Parts.{reg_names, file_names, mem_names, input_names, unit_names, format_names, names_of_fields}
 use Rattle.ap_desc.specs.Reserved.{is_free_name}
-use Rattle.ap_desc.specs.Designs.{Matches, IsWithin, names_in, lines_in, is_named_nop, Rise, ArePlaced, IsRight, width_at, arg_width}
+use Rattle.ap_desc.specs.Widths.{has_widths}
 
 -- no name stands twice
 abbrev pub are_distinct : List (List ℕ) → Bool
@@ -27,57 +21,13 @@ are_distinct (name ∷ names) = not (list_any (bytes_eq name) names) && are_dist
 
 -- registers, files, memories, input ports and units share one space of names
 abbrev pub names_of_parts : Design → List (List ℕ)
-names_of_parts design =
-    map (λ (r : Reg). r.name) design.regs ++ map (λ (f : File). f.name) design.files ++ map (λ (m : Mem). m.name) design.mems
-    ++ map (λ (p : InPort). p.name) design.inputs ++ map (λ (u : Resource). u.name) design.units
+names_of_parts design = reg_names design ++ file_names design ++ mem_names design ++ input_names design ++ unit_names design
 
 -- no name is declared twice in its space
 abbrev pub are_named_once : Design → Bool
 are_named_once design =
-    are_distinct (names_of_parts design) && are_distinct (map (λ (f : Format). f.name) design.formats)
-    && are_distinct (map (λ (i : Instr). i.name) design.instrs)
-    && list_all (λ (f : Format). are_distinct (map (λ (x : Field). x.name) f.fields)) design.formats
-
-abbrev pub reg_width : Design → ℕ → ℕ
-reg_width design reg = width_at (λ (r : Reg). r.width) design.regs reg
-
-abbrev pub file_width : Design → ℕ → ℕ
-file_width design file = width_at (λ (f : File). f.width) design.files file
-
--- so many bits number the file's cells
-abbrev pub is_index : Design → ℕ → ℕ → Bool
-is_index design file bits = 2 ^ bits == width_at (λ (f : File). f.cells) design.files file
-
-abbrev pub mem_width : Design → ℕ → ℕ
-mem_width design mem = width_at (λ (m : Mem). m.width) design.mems mem
-
-abbrev pub mem_address : Design → ℕ → ℕ
-mem_address design mem = width_at (λ (m : Mem). m.address) design.mems mem
-
-abbrev pub unit_width : Design → ℕ → ℕ
-unit_width design unit = width_at (λ (u : Resource). u.width) design.units unit
-
--- a guard, where there is one, has one bit
-abbrev pub is_guard : (Arg → ℕ) → Option Arg → Bool
-is_guard width guard = option_map_or (λ g. width g == 1) guard true
-
--- the operands have the widths that the line needs, and its constant fits; width gives the width of each operand
-abbrev pub has_widths : Design → (Arg → ℕ) → Act → Bool
-has_widths design width (act.Compute unit op a b) = (width a == unit_width design unit) && (width b == unit_width design unit)
-has_widths design width (act.ReadFile file port index) = is_index design file (width index)
-has_widths design width (act.ReadReg reg) = true
-has_widths design width (act.ReadMem mem at) = width at == mem_address design mem
-has_widths design width (act.ReadIn input) = true
-has_widths design width (act.Const bits value) = nat_lt value (2 ^ bits)
-has_widths design width (act.Zext bits a) = nat_le (width a) bits
-has_widths design width (act.Sext bits a) = nat_le (width a) bits
-has_widths design width (act.Slice high low a) = nat_le low high && nat_lt high (width a)
-has_widths design width (act.Cat a b) = nat_le (width a + width b) 64
-has_widths design width (act.WriteFile file port index value guard) = is_index design file (width index) && (width value == file_width design file) && is_guard width guard
-has_widths design width (act.WriteReg reg value guard) = (width value == reg_width design reg) && is_guard width guard
-has_widths design width (act.WriteMem mem at value guard) = (width at == mem_address design mem) && (width value == mem_width design mem) && is_guard width guard
-has_widths design width (act.Branch cond target) = (width cond == 1) && (width target == design.address)
-has_widths design width (act.Jump target) = width target == design.address
+    are_distinct (names_of_parts design) && are_distinct (format_names design) && are_distinct (map (λ (i : Instr). i.name) design.instrs)
+    && list_all (λ (f : Format). are_distinct (names_of_fields f.fields)) design.formats
 
 -- every line of an instruction with a format of these fields has the widths that it needs
 abbrev pub are_lines_typed : Design → Instr → List Field → Bool

@@ -1,8 +1,17 @@
 //! Laws of the definitions. They do nothing: their contracts are what they say.
-ghost use Rattle.std.specs.Prelude.{◌≡◌, ℕ, List};
+ghost use Rattle.std.specs.Prelude.{◌≡◌, ◌↔◌, ℕ, List, true};
+ghost use Rattle.ap_bits.specs.declared.card.Card.{Card};
+ghost use Rattle.ap_desc.specs.Chains.{ClosesLoop, IsChainOrder, IsLooped};
+ghost use Rattle.ap_desc.specs.Clean.{IsClean};
+ghost use Rattle.ap_desc.specs.Least.{IsLeast};
+ghost use Rattle.ap_desc.specs.Meaning.{IsLeastAnyFault, IsLeastMeaningFault, IsLeastPortFault, IsLeastWordFault, MeetsAnyFault, MeetsFault, MeetsPortFault, MeetsWordFault};
 ghost use Rattle.ap_desc.specs.Reading.{ReadsAs};
+ghost use Rattle.ap_desc.specs.Sound.{IsEncoded};
 ghost use Rattle.ap_desc.specs.Spelling.{Spells};
 ghost use Rattle.ap_desc.specs.declared.description.Numbered.{Numbered};
+ghost use Rattle.ap_desc.specs.declared.design.Design.{Design};
+ghost use Rattle.ap_desc.specs.declared.design.Node.{Node};
+ghost use Rattle.ap_desc.specs.declared.fault.Refusal.{Refusal};
 ghost use Rattle.ap_desc.specs.declared.statement.Statement.{Statement};
 
 /// No two statements have the same tokens.
@@ -14,4 +23,26 @@ pub fn spelling_is_unique()
 /// A text reads as one list of statements at most.
 pub fn reading_is_unique()
     ensures { (text : List ℕ) (one other : List Numbered) → ReadsAs text one → ReadsAs text other → one ≡ other }
+{}
+
+/// A description, a text and a design have one least fault at most.
+pub fn least_fault_is_unique()
+    ensures description { (statements : List Numbered) (cards : List Card) (one other : Refusal) → IsLeastMeaningFault statements cards one → IsLeastMeaningFault statements cards other → one ≡ other }
+    ensures text { (text : List ℕ) (cards : List Card) (one other : Refusal) → IsLeastAnyFault text cards one → IsLeastAnyFault text cards other → one ≡ other }
+    ensures words { (design : Design) (one other : Refusal) → IsLeastWordFault design one → IsLeastWordFault design other → one ≡ other }
+    ensures ports { (design : Design) (one other : Refusal) → IsLeastPortFault design one → IsLeastPortFault design other → one ≡ other }
+{}
+
+/// The least fault among those that are looked at is the least of all whose conditions hold.
+pub fn least_fault_is_looked_at()
+    ensures description { (statements : List Numbered) (cards : List Card) (refusal : Refusal) → IsLeast (MeetsFault statements cards) refusal ↔ IsLeastMeaningFault statements cards refusal }
+    ensures text { (text : List ℕ) (cards : List Card) (refusal : Refusal) → IsLeast (MeetsAnyFault text cards) refusal ↔ IsLeastAnyFault text cards refusal }
+    ensures words { (design : Design) (refusal : Refusal) → IsLeast (MeetsWordFault design) refusal ↔ IsLeastWordFault design refusal }
+    ensures ports { (design : Design) (refusal : Refusal) → IsLeast (MeetsPortFault design) refusal ↔ IsLeastPortFault design refusal }
+{}
+
+/// A stage whose nodes have an order in which every edge goes forward has no loop; where one has, a single line closes it.
+pub fn loops_and_orders()
+    ensures order { (design : Design) (stage : ℕ) (order : List Node) → IsChainOrder design stage order → IsLooped design stage (λ n. true) → ⊥ }
+    ensures line { (design : Design) (stage line other : ℕ) → ClosesLoop design stage line → ClosesLoop design stage other → line ≡ other }
 {}

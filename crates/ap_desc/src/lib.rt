@@ -19,6 +19,10 @@ pub use statement::{FieldNumber, Statement, Word};
 pub use writing::show;
 
 #[cfg(test)]
+mod flow_rows;
+#[cfg(test)]
+mod meaning_rows;
+#[cfg(test)]
 mod rows;
 #[cfg(test)]
 mod tests;
