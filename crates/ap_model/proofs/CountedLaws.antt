@@ -1,28 +1,24 @@
 -- The machine in which each flight counts its own waiting is the one with a single count, while a busy stage holds all stages.
-use Rattle.std.proofs.Common.{◌≡◌, ℕ, zero, suc, ◌+◌, ◌-◌, ◌||◌, ◌&&◌, nat_lt, max, if◌then◌else◌, Bool, true, false, List, [], ◌∷◌, ◌++◌, map, filter, option_map, option_and_then, slice_index_or, fold, replicate, is_some, Option, Some, None, refl, ap, sym, ◌∙◌, arith, append-nil}
+use Rattle.std.proofs.Common.{◌≡◌, ℕ, zero, suc, ◌+◌, ◌-◌, ◌||◌, ◌&&◌, nat_lt, max, if◌then◌else◌, Bool, true, false, List, [], ◌∷◌, ◌++◌, map, option_map, option_and_then, slice_index_or, fold, replicate, is_some, Option, Some, None, refl, ap, sym, ◌∙◌, arith, append-nil}
 use Rattle.std.proofs.lemmas.Bool.Decides.{nat_tests}
 use Rattle.std.specs.List.{list_any}
-use Rattle.std.specs.Option.{option_map_or}
 use Rattle.ap_bits.specs.declared.card.Card.{Card}
 use Rattle.ap_desc.specs.declared.design.Design.{Design}
 use Rattle.ap_image.specs.declared.image.Image.{Image}
 use Rattle.ap_image.specs.declared.trace.Trace.{Trace}
 use Rattle.ap_image.specs.declared.trace.TraceLine.{TraceLine}
-use Rattle.ap_model.specs.declared.row.Row.{Row}
-use Rattle.ap_model.specs.declared.row.Write.{Write}
 use Rattle.ap_model.specs.declared.state.Entry.{Entry}
 use Rattle.ap_model.specs.declared.state.Flight.{Flight}
 use Rattle.ap_model.specs.declared.state.Pass.{Pass}
 use Rattle.ap_model.specs.declared.state.Sample.{Sample}
 use Rattle.ap_model.specs.declared.state.State.{State}
-use Rattle.ap_model.specs.declared.storage.PortWrite.{PortWrite}
 use Rattle.ap_model.specs.declared.storage.WritePort.{WritePort}
-use Rattle.ap_model.specs.Cycles.{Course, after_course, course_of, cycle, cycle_entries, cycle_flights, cycle_passes, cycle_samples, done_in, entering, fetched, flight_at, flight_done, flights_from, from_last, inputs_at, is_killed, kept, leaving, next_number, next_pc, over, staying, taken_transfer, unkilled_numbers}
+use Rattle.ap_model.specs.Cycles.{Course, after_course, course_of, cycle, cycle_entries, cycle_flights, cycle_passes, cycle_samples, done_in, entering, fetched, flight_at, flight_done, flights_from, from_last, inputs_at, is_killed, kept, leaving, next_number, next_pc, over, unkilled_numbers}
 use Rattle.ap_model.specs.OneCount.{Counted, as_state, counted_cycle, counted_over, counted_row_of, free_course, greatest_need, is_memory_used, is_stalled, waiting, IsSameMachine}
 use Rattle.ap_model.specs.ShownRows.{course_row, cycle_row, group_writes, row}
 use Rattle.ap_model.specs.Ports.{row_ports}
 use Rattle.ap_model.specs.Stalls.{busy_from, has_memory_line, need}
-use Rattle.ap_model.specs.States.{start, start_storages}
+use Rattle.ap_model.specs.States.{start}
 use Rattle.ap_model.specs.Stored.{with_writes}
 
 -- every flight with this count

@@ -22,7 +22,6 @@ use Rattle.ap_model.specs.declared.state.Done.{Done}
 use Rattle.ap_model.specs.declared.state.InputRead.{InputRead}
 use Rattle.ap_model.specs.declared.storage.PortWrite.{PortWrite}
 use Rattle.ap_model.specs.declared.storage.Storages.{Storages}
-use Rattle.ap_model.specs.declared.storage.WritePort.{WritePort}
 use Rattle.ap_model.specs.declared.storage.WritePort.TheVariants as port
 use Rattle.ap_model.specs.Ports.{is_same_port, write_ports}
 use Rattle.ap_model.specs.Stored.{reg_value, cell_value, word_value}

@@ -1,6 +1,6 @@
 -- The same machine told with one count for the whole pipeline. A cycle is stalled as a whole or not at all; `held` counts the stalled
 -- cycles since the last one that wasn't. No flight has a count of its own: what its record keeps is 0 and isn't looked at.
-use Rattle.std.specs.Prelude.{◌≡◌, ℕ, zero, suc, ◌+◌, ◌-◌, ◌||◌, ◌&&◌, nat_lt, max, if◌then◌else◌, Bool, true, false, List, [], ◌∷◌, map, Option, None, option_map, option_and_then}
+use Rattle.std.specs.Prelude.{◌≡◌, ℕ, zero, suc, ◌+◌, ◌||◌, ◌&&◌, nat_lt, max, if◌then◌else◌, Bool, true, false, List, [], ◌∷◌, map, Option, option_map, option_and_then}
 use Rattle.std.specs.Option.{option_map_or}
 use Rattle.ap_bits.specs.declared.card.Card.{Card}
 use Rattle.ap_desc.specs.declared.design.Design.{Design}

@@ -1,6 +1,6 @@
 -- One instruction at a time: its stages fire in order, and each stage's writes are applied before the next stage fires. A transfer
 -- that is taken happens after as many further instructions as there are slots.
-use Rattle.std.specs.Prelude.{ℕ, zero, suc, ◌+◌, ◌-◌, ◌%◌, ◌^◌, ◌==◌, ◌&&◌, List, [], ◌∷◌, ◌++◌, fold, find, Option, Some, None, slice_index}
+use Rattle.std.specs.Prelude.{ℕ, zero, suc, ◌+◌, ◌-◌, ◌%◌, ◌^◌, ◌==◌, ◌&&◌, List, [], ◌++◌, fold, find, Option, Some, None, slice_index}
 use Rattle.std.specs.List.{range_with_len}
 use Rattle.std.specs.Option.{option_map_or}
 use Rattle.ap_bits.specs.declared.card.Card.{Card}

@@ -1,5 +1,5 @@
 -- Which stages are busy, and which are held for it.
-use Rattle.std.specs.Prelude.{ℕ, ◌+◌, ◌||◌, ◌&&◌, nat_lt, max, Bool, true, false, List, [], ◌∷◌, fold, filter_map, Option, Some, None, option_map, slice_get}
+use Rattle.std.specs.Prelude.{ℕ, ◌+◌, ◌||◌, ◌&&◌, nat_lt, max, Bool, true, false, List, [], ◌∷◌, fold, filter_map, Option, None, option_map, slice_get}
 use Rattle.std.specs.List.{list_any}
 use Rattle.std.specs.Option.{option_map_or}
 use Rattle.ap_desc.specs.declared.design.Design.{Design}

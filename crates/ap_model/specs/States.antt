@@ -1,5 +1,5 @@
 -- What the machine of overlapped execution holds, and how it starts.
-use Rattle.std.specs.Prelude.{ℕ, ◌-◌, [], map, replicate, None}
+use Rattle.std.specs.Prelude.{◌-◌, [], map, replicate, None}
 use Rattle.ap_desc.specs.declared.design.Design.{Design}
 use Rattle.ap_desc.specs.declared.design.Reg.{Reg}
 use Rattle.ap_desc.specs.declared.design.File.{File}

@@ -1,10 +1,7 @@
-use Rattle.std.proofs.Common.{refl, ap, ◌∙◌}
-use Rattle.ap_model.specs.Cycles.{after_course, course_of, cycle, cycle_entries, cycle_flights, cycle_passes, cycle_samples, over}
+use Rattle.std.proofs.Common.{ap}
 use Rattle.ap_model.specs.Fire.{fire, instr_of, locals_after}
-use Rattle.ap_model.specs.Ports.{write_groups, write_ports}
-use Rattle.ap_model.specs.ShownRows.{course_row, cycle_row, row, rows_of}
-use Rattle.ap_model.specs.Stalls.{has_memory_line, need}
-use Rattle.ap_model.specs.States.{start, start_storages}
+use Rattle.ap_model.specs.Ports.{write_ports}
+use Rattle.ap_model.specs.States.{start_storages}
 use Rattle.ap_model.specs.Stored.{with_writes}
 use Rattle.std.specs.Prelude.{ℕ, List, [], ◌∷◌}
 use Rattle.ap_model.specs.Examples.{logged}

@@ -1,4 +1,4 @@
-use Rattle.std.proofs.Common.{refl, ap, ◌∙◌}
+use Rattle.std.proofs.Common.{ap, ◌∙◌}
 use Rattle.ap_model.specs.Cycles.{Course, after_course, inputs_at, taken_transfer, course_of, cycle, cycle_entries, cycle_flights, cycle_passes, cycle_samples, over}
 use Rattle.ap_model.specs.Fire.{fire, instr_of, locals_after}
 use Rattle.ap_model.specs.Ports.{write_groups, write_ports}
@@ -6,12 +6,11 @@ use Rattle.ap_model.specs.ShownRows.{course_row, cycle_row, row, rows_of}
 use Rattle.ap_model.specs.Stalls.{has_memory_line, need}
 use Rattle.ap_model.specs.States.{start, start_storages}
 use Rattle.ap_model.specs.Stored.{with_writes}
-use Rattle.std.specs.Prelude.{◌≡◌, ◌/◌, ◌%◌, ◌^◌, ◌==◌, if◌then◌else◌, false, filter_map, slice_get, Option, Some, None, ℕ, List, [], ◌∷◌, ◌++◌, replicate}
-use Rattle.ap_model.specs.Examples.{example_cards, processor, branch_code, no_trace, run, stall, kill, cell, two_cells}
-use Rattle.ap_model.specs.Fire.{unit_value}
+use Rattle.std.specs.Prelude.{◌≡◌, ◌/◌, ◌%◌, ◌^◌, ◌==◌, if◌then◌else◌, false, filter_map, slice_get, Option, Some, None, ℕ, List, [], ◌∷◌}
+use Rattle.ap_model.specs.Examples.{example_cards, processor, branch_code, no_trace, run, kill, cell}
 use Rattle.ap_model.specs.declared.row.Row.{Row}
 use Rattle.ap_model.specs.declared.state.State.{State}
-use Rattle.ap_model.proofs.Worked.{equal, sum, sum_two, product}
+use Rattle.ap_model.proofs.Worked.{equal, sum}
 use Rattle.ap_model.proofs.rows.branch_with_slot.Goals as goal
 
 -- the state before the cycle in which the branch stands in stage 2

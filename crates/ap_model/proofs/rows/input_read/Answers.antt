@@ -1,4 +1,4 @@
-use Rattle.std.proofs.Common.{refl, ap, ◌∙◌}
+use Rattle.std.proofs.Common.{refl}
 use Rattle.ap_model.specs.Cycles.{after_course, course_of, cycle, cycle_entries, cycle_flights, cycle_passes, cycle_samples, over}
 use Rattle.ap_model.specs.Fire.{fire, instr_of, locals_after}
 use Rattle.ap_model.specs.Ports.{write_groups, write_ports}

@@ -1,4 +1,4 @@
-use Rattle.std.proofs.Common.{refl, ap, ◌∙◌}
+use Rattle.std.proofs.Common.{refl}
 use Rattle.ap_model.specs.Cycles.{after_course, course_of, cycle, cycle_entries, cycle_flights, cycle_passes, cycle_samples, over}
 use Rattle.ap_model.specs.Fire.{fire, instr_of, locals_after}
 use Rattle.ap_model.specs.Ports.{write_groups, write_ports}
@@ -6,11 +6,7 @@ use Rattle.ap_model.specs.ShownRows.{course_row, cycle_row, row, rows_of}
 use Rattle.ap_model.specs.Stalls.{has_memory_line, need}
 use Rattle.ap_model.specs.States.{start, start_storages}
 use Rattle.ap_model.specs.Stored.{with_writes}
-use Rattle.std.specs.Prelude.{◌≡◌, true, false, ℕ, List, [], ◌∷◌, ◌++◌, replicate}
-use Rattle.ap_model.specs.Examples.{example_cards, processor, two_ports, run, stall, cell, two_cells}
-use Rattle.ap_model.specs.Fire.{unit_value}
-use Rattle.ap_model.specs.declared.row.Row.{Row}
-use Rattle.ap_model.proofs.Worked.{sum, sum_two, product}
+use Rattle.std.specs.Prelude.{◌≡◌, true, false}
 use Rattle.ap_model.specs.Sequence.{next_instruction, sequential, whole_instruction}
 use Rattle.ap_model.proofs.rows.jump_with_slot.Goals as goal
 
