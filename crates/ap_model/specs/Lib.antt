@@ -2,8 +2,10 @@ pub mod Cycles
 pub mod DesignShape
 pub mod Examples
 pub mod Fire
+pub mod Fitting
 pub mod Landings
 pub mod OneCount
+pub mod PlainViews
 pub mod Ports
 pub mod Sequence
 pub mod ShownRows

@@ -6,6 +6,7 @@
 #![tactic(auto)]
 
 pub mod laws;
+pub mod plain;
 pub mod row;
 pub mod sequence;
 pub mod state;
