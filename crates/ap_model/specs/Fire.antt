@@ -114,13 +114,14 @@ target_of value (act.Branch cond target) = if value cond == 1 then Some (value t
 target_of value (act.Jump target) = Some (value target)
 target_of value _ = None
 
+-- the port that an input read reads
+abbrev pub input_of : Act → Option ℕ
+input_of (act.ReadIn port) = Some port
+input_of _ = None
+
 -- what an input read takes
 abbrev pub read_of : (ℕ → ℕ → ℕ) → Micro → Option InputRead
-read_of input micro = option_map (λ port. record { line = micro.line; value = input micro.line port }) (port_read micro.act)
-  where
-    port_read : Act → Option ℕ
-    port_read (act.ReadIn port) = Some port
-    port_read _ = None
+read_of input micro = option_map (λ port. record { line = micro.line; value = input micro.line port }) (input_of micro.act)
 
 -- the writes by port, in the order of the writes of one stage
 abbrev pub ordered : Design → List PortWrite → List PortWrite
