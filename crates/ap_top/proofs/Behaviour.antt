@@ -13,7 +13,10 @@ use Rattle.ap_net.specs.Draft.{Draft, RanksOn}
 use Rattle.ap_net.specs.Modules.{ModuleText, IsModule, nets_of, next_placed, reset_at, reset_value, name_at, name_of}
 use Rattle.ap_net.specs.Flat.{Flat, Solves, value_named, register_named, NamesAreFound, RegistersAreFound}
 use Rattle.ap_net.specs.Finished.{IsFinished}
-use Rattle.ap_net.specs.Outside.{Image, TraceLine, ImageFits, line_at}
+use Rattle.ap_image.specs.declared.image.Image.{Image}
+use Rattle.ap_image.specs.declared.trace.Trace.{Trace}
+use Rattle.ap_image.specs.FitsShape.{ImageFitsShape, line_at}
+use Rattle.ap_net.specs.Outside.{shape_of}
 use Rattle.ap_net.specs.Runs.{NetState, Cycle, Runs, reset_state}
 use Rattle.ap_net.specs.Rows.{shown_row}
 use Rattle.ap_net.specs.Sources.{Given, IsOrderedWith, AlwaysSolvable}
@@ -90,7 +93,7 @@ module _ (form : Form) (ok : IsForm form) (d : Draft) (nets : Nets) (shown : IsS
       ∙ (λ i. reset_value (placed_net 0 _ (based 0 _ refl) i) ∷ reset_value (placed_net 1 _ (based 1 _ refl) i) ∷ reset_value (placed_net 2 _ (based 2 _ refl) i) ∷ reset_value (placed_net 3 _ (based 3 _ refl) i) ∷ [])
 
   -- one cycle goes from what the machine holds to what it holds after a cycle, and shows the row
-  steps : (image : Image) (trace : List TraceLine) (j : ℕ) (old new : NetState) (v : List ℕ) (s : State) → Cycle (outside_of form) flat image.code (line_at trace [] j) old v new → HoldsState old.registers s
+  steps : (image : Image) (trace : Trace) (j : ℕ) (old new : NetState) (v : List ℕ) (s : State) → Cycle (outside_of form) flat image.code (line_at trace [] j) old v new → HoldsState old.registers s
       → HoldsState new.registers (cycle form image s) × (shown_row (outside_of form) flat v ≡ record { stall = false; kill = false; writes = writes_of (fire form s.register s.stage) })
   steps image trace j old new v s c h =
       let e = (solved v c.solves).0 in
@@ -107,7 +110,7 @@ module _ (form : Form) (ok : IsForm form) (d : Draft) (nets : Nets) (shown : IsS
       )
 
   -- in a run the registers hold the machine's states
-  holds : (image : Image) (trace : List TraceLine) (c : ℕ) (states : ℕ → NetState) (valuations : ℕ → List ℕ) → Runs (outside_of form) flat image trace c states valuations
+  holds : (image : Image) (trace : Trace) (c : ℕ) (states : ℕ → NetState) (valuations : ℕ → List ℕ) → Runs (outside_of form) flat image trace c states valuations
       → (j : ℕ) → j ≤ c → HoldsState (states j).registers (over form image trace j)
   holds image trace c states valuations runs zero le = subst (λ r. HoldsState r (start form)) (sym (ap (λ (x : NetState). x.registers) runs.starts ∙ reset_is image)) (refl, refl, refl)
   holds image trace c states valuations runs (suc j) le =
@@ -116,7 +119,7 @@ module _ (form : Form) (ok : IsForm form) (d : Draft) (nets : Nets) (shown : IsS
       subst (λ n. HoldsState (states n).registers (over form image trace (suc j))) next (steps image trace j (states j) (states (j + 1)) (valuations j) (over form image trace j) (runs.goes j (omega arith)) before).0
 
   -- there is a number for each register
-  long : (image : Image) (trace : List TraceLine) (c : ℕ) (states : ℕ → NetState) (valuations : ℕ → List ℕ) → Runs (outside_of form) flat image trace c states valuations
+  long : (image : Image) (trace : Trace) (c : ℕ) (states : ℕ → NetState) (valuations : ℕ → List ℕ) → Runs (outside_of form) flat image trace c states valuations
       → (j : ℕ) → j ≤ c → length (states j).registers ≡ length m.nexts
   long image trace c states valuations runs zero le = ap (λ (x : NetState). length x.registers) runs.starts ∙ simp length-map
   long image trace c states valuations runs (suc j) le =
@@ -164,7 +167,7 @@ module _ (form : Form) (ok : IsForm form) (d : Draft) (nets : Nets) (shown : IsS
   }
 
   -- one more cycle can be made
-  one_more : (image : Image) (trace : List TraceLine) (j : ℕ) (old : NetState) → ImageFits image (outside_of form) → FourFit form old.registers
+  one_more : (image : Image) (trace : Trace) (j : ℕ) (old : NetState) → ImageFitsShape image (shape_of (outside_of form)) → FourFit form old.registers
       → (v : List ℕ) × (new : NetState) × Cycle (outside_of form) flat image.code (line_at trace [] j) old v new × FourFit form new.registers
   unfolding sources
   one_more image trace j old fits f =
@@ -201,7 +204,7 @@ module _ (form : Form) (ok : IsForm form) (d : Draft) (nets : Nets) (shown : IsS
       )
 
   -- the states of a run, one after another
-  made : (image : Image) (trace : List TraceLine) → ImageFits image (outside_of form) → ℕ → (state : NetState) × FourFit form state.registers
+  made : (image : Image) (trace : Trace) → ImageFitsShape image (shape_of (outside_of form)) → ℕ → (state : NetState) × FourFit form state.registers
   made image trace fits zero = (
     reset_state flat image,
     subst (FourFit form) (sym (reset_is image)) (record { four = refl; pc = pow_pos form.address; register = (ok.values).start; valid = lit< tt; word = pow_pos form.word }),
@@ -211,7 +214,7 @@ module _ (form : Form) (ok : IsForm form) (d : Draft) (nets : Nets) (shown : IsS
       let more = one_more image trace j before.0 fits before.1 in
       (more.1, more.3)
 
-  exists : (image : Image) (trace : List TraceLine) (c : ℕ) → ImageFits image (outside_of form)
+  exists : (image : Image) (trace : Trace) (c : ℕ) → ImageFitsShape image (shape_of (outside_of form))
       → (states : ℕ → NetState) × (valuations : ℕ → List ℕ) × Runs (outside_of form) flat image trace c states valuations
   unfolding made
   exists image trace c fits =

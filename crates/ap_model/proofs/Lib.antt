@@ -1,0 +1,4 @@
+pub mod CountedLaws
+pub mod PlainWidths
+pub mod StageLemmas
+pub mod Worked

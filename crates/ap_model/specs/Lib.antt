@@ -1,0 +1,15 @@
+pub mod Cycles
+pub mod DesignShape
+pub mod Examples
+pub mod Fire
+pub mod Fitting
+pub mod Landings
+pub mod OneCount
+pub mod PlainViews
+pub mod Ports
+pub mod Sequence
+pub mod ShownRows
+pub mod Stalls
+pub mod States
+pub mod Stored
+pub mod WritesOf

@@ -1,0 +1,4 @@
+//! A plain program of the machine, that goes by the definitions step by step. It is slow, and makes every list anew; faster programs
+//! are compared with it.
+
+mod values;
