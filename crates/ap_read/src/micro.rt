@@ -60,6 +60,7 @@ fn signed(alloc: Global, stage: u64, name: &[u8], rest: &[&[u8]]) -> Result<Stat
     source(alloc, stage, to, rest)
 }
 
+/// `S R <- v`, from what stands after the sign.
 #[tactic(auto, unfolding(crate::specs::Forms::write_register_in))]
 fn write_register(
     alloc: Global,
@@ -154,6 +155,7 @@ fn read_part(
     }
 }
 
+/// `S x = M.read a` or `S x = F.rN i`, from the name, the part after the point and the operand.
 #[tactic(auto, unfolding(crate::specs::Forms::read_port_in))]
 fn read_port(
     alloc: Global,
@@ -185,6 +187,7 @@ fn read_port(
     })
 }
 
+/// `S x = U.op a b`, from the name, the part after the point and the operands.
 #[tactic(auto, unfolding(crate::specs::Forms::compute_in))]
 fn compute(
     alloc: Global,
@@ -261,6 +264,7 @@ fn plain_source(
     read_register(alloc, stage, to, first, rest)
 }
 
+/// `S x = slice H L a`, from what stands after `slice`.
 #[tactic(auto, unfolding(crate::specs::Forms::slice_in))]
 fn slice_of(alloc: Global, stage: u64, to: Name, rest: &[&[u8]]) -> Result<Statement, Unread>
     ensures { Answers result (slice_in stage to (texts rest.now)) }
@@ -279,6 +283,7 @@ fn slice_of(alloc: Global, stage: u64, to: Name, rest: &[&[u8]]) -> Result<State
     })
 }
 
+/// `S x = R`, after which nothing stands.
 #[tactic(auto, unfolding(crate::specs::Forms::read_register_in))]
 fn read_register(
     alloc: Global,
