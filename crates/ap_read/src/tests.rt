@@ -168,7 +168,7 @@ fn faults_of_form(rt: HostRuntime) -> Result<(), Fail> {
 fn texts_at_the_limit_of_bytes(rt: HostRuntime) -> Result<(), Fail> {
     let alloc = rt.alloc();
     let mut text = Vec::from_slice(alloc, smallest().as_bytes())?;
-    while text.len() < DESCRIPTION_LIMIT {
+    for _ in text.len()..DESCRIPTION_LIMIT {
         text.push(b'#')?;
     }
     assert_eq!(rt; fault_of(alloc, &text)?, None);
