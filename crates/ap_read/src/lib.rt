@@ -16,3 +16,6 @@ pub mod statement;
 mod token;
 
 pub use reading::{DESCRIPTION_LIMIT, read};
+
+#[cfg(test)]
+mod tests;

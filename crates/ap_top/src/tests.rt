@@ -156,17 +156,38 @@ fn is_refused(alloc: Global, description: &[u8], line: &str) -> Result<bool, Fai
     Ok(status == 2 && only_printed(&desk, line))
 }
 
+/// Changes of the description in one place, and the line that is printed for each.
+fn changes_with_a_fault() -> [(&'static str, &'static str, &'static str); 7] {
+    [
+        ("stages 2", "stages 3", "line 1: F0 NotBuilt"),
+        ("word 8", "word two", "line 3: F1 BadLine"),
+        ("word 8", "word 65", "line 3: F0 NotBuilt"),
+        ("format", "address 4\nformat", "line 7: F2 BadOrder"),
+        ("transfer 1 0\n", "", "line 0: F4 Missing"),
+        ("s\nend\n", "s\n", "line 0: F4 Missing"),
+        (
+            "s\nend\n",
+            "s\nend\ninstr J F\nend\n",
+            "line 16: F0 NotBuilt",
+        ),
+    ]
+}
+
 #[test]
 fn descriptions_with_a_fault(rt: HostRuntime) -> Result<(), Fail> {
-    let not_built = "description: line 0: F0 NotBuilt\n";
-    let stages = accumulator().replace(rt.alloc(), "stages 2", "stages 3")?;
-    assert!(rt; is_refused(rt.alloc(), stages.as_bytes(), not_built)?);
-    let front = accumulator().strip_suffix("end\n").ok_or("no end")?;
-    assert!(rt; is_refused(rt.alloc(), front.as_bytes(), not_built)?);
-    let limit = vec![in rt.alloc(); b'#'; 1_048_576]?;
-    assert!(rt; is_refused(rt.alloc(), &limit, not_built)?);
-    let long = vec![in rt.alloc(); b'#'; 1_048_577]?;
-    assert!(rt; is_refused(rt.alloc(), &long, "description: line 0: F5 TooLong\n")?);
+    let alloc = rt.alloc();
+    for (from, to, fault) in changes_with_a_fault() {
+        let text = accumulator().replace(alloc, from, to)?;
+        let line = format!(in alloc; "description: {fault}\n")?;
+        assert!(rt;
+            is_refused(alloc, text.as_bytes(), line.as_str())?,
+            "at {to}"
+        );
+    }
+    let limit = vec![in alloc; b'#'; 1_048_576]?;
+    assert!(rt; is_refused(alloc, &limit, "description: line 0: F4 Missing\n")?);
+    let long = vec![in alloc; b'#'; 1_048_577]?;
+    assert!(rt; is_refused(alloc, &long, "description: line 0: F5 TooLong\n")?);
     Ok(())
 }
 
@@ -279,22 +300,19 @@ fn spellings_of_forms() -> [([&'static str; 6], Form); 3] {
     ]
 }
 
-fn spellings_of_none() -> [[&'static str; 6]; 14] {
+/// Numbers outside their ranges, or none, with the line where the first one stands.
+fn spellings_of_none() -> [([&'static str; 6], u32); 10] {
     [
-        ["3", "8", "8", "3", "1", "250"],
-        ["17", "8", "8", "3", "1", "250"],
-        ["4", "7", "8", "3", "1", "250"],
-        ["4", "65", "8", "3", "1", "250"],
-        ["4", "8", "0", "0", "1", "0"],
-        ["4", "8", "65", "3", "1", "250"],
-        ["4", "8", "8", "256", "1", "250"],
-        ["4", "8", "8", "3", "0", "250"],
-        ["4", "8", "8", "3", "256", "250"],
-        ["4", "8", "8", "3", "1", "256"],
-        ["4", "8", "64", "18446744073709551616", "1", "250"],
-        ["4", "0X8", "8", "3", "1", "250"],
-        ["4", "8", "8", "", "1", "250"],
-        ["4", "8", "8", "3", "", "250"],
+        (["3", "8", "8", "3", "1", "250"], 2),
+        (["17", "8", "8", "3", "1", "250"], 2),
+        (["4", "7", "8", "3", "1", "250"], 3),
+        (["4", "65", "8", "3", "1", "250"], 3),
+        (["4", "8", "0", "0", "1", "0"], 5),
+        (["4", "8", "65", "3", "1", "250"], 5),
+        (["4", "8", "8", "256", "1", "250"], 5),
+        (["4", "8", "8", "3", "0", "250"], 10),
+        (["4", "8", "8", "3", "256", "250"], 10),
+        (["4", "8", "8", "3", "1", "256"], 12),
     ]
 }
 
@@ -304,9 +322,9 @@ fn numbers_within_their_ranges(rt: HostRuntime) -> Result<(), Fail> {
         let text = spelled(rt.alloc(), numbers)?;
         assert_eq!(rt; judge(rt.alloc(), text.as_bytes()), Ok(form));
     }
-    let fault = ReadFault::Refused(Judged::NotBuilt { line: 0 });
-    for numbers in spellings_of_none() {
+    for (numbers, line) in spellings_of_none() {
         let text = spelled(rt.alloc(), numbers)?;
+        let fault = ReadFault::Refused(Judged::NotBuilt { line });
         assert_eq!(rt; judge(rt.alloc(), text.as_bytes()), Err(fault), "at {text}");
     }
     Ok(())
@@ -320,36 +338,43 @@ fn changes_that_stay_built() -> [(&'static str, &'static str); 3] {
     ]
 }
 
-fn changes_that_do_not() -> [(&'static str, &'static str); 13] {
+/// Changes of the description in one place that stay without fault of form, with the first line that isn't due.
+fn changes_that_are_not_built() -> [(&'static str, &'static str, u32); 9] {
     [
-        ("format F op:8", "format F op:9"),
-        ("format F op:8", "format F op: 8"),
-        ("unit U alu 8", "unit U alu 9"),
-        ("unit U alu 8", "unit U mul 8"),
-        ("const 8 250", "const 9 250"),
-        ("word 8\n", "word 8 8\n"),
-        ("word 8\n", "word\n"),
-        ("word 8\n", ""),
-        ("word 8\n", "word 8\nword 8\n"),
-        ("word 8\n", "word 8 # \u{e4}\n"),
-        ("word 8\n", "word 8\r\n"),
-        ("transfer 1 0", "transfer 1 00"),
-        ("instr I", "instr J"),
+        ("format F op:8", "format F op:9", 7),
+        ("format F op:8", "\nformat F op:7", 8),
+        ("unit U alu 8", "unit U alu 9", 6),
+        ("unit U alu 8", "unit U mul 8", 6),
+        ("const 8 250", "const 9 250", 12),
+        ("transfer 1 0", "transfer 1 00", 4),
+        ("instr I F", "instr J F", 10),
+        ("  1 a = R\n", "", 11),
+        (
+            "instr I F op=1\n  1 a = R\n  1 k = const 8 250\n  1 s = U.add a k\n  1 R <- s\nend\n",
+            "",
+            0,
+        ),
     ]
 }
 
-fn is_built_after(alloc: Global, from: &str, to: &str) -> Result<bool, AllocError> {
+/// What is judged of the description after a change.
+fn judged_after(
+    alloc: Global,
+    from: &str,
+    to: &str,
+) -> Result<Result<Form, ReadFault>, AllocError> {
     let text = accumulator().replace(alloc, from, to)?;
-    Ok(judge(alloc, text.as_bytes()).is_ok())
+    Ok(judge(alloc, text.as_bytes()))
 }
 
 #[test]
 fn lines_as_they_are_due(rt: HostRuntime) -> Result<(), Fail> {
     for (from, to) in changes_that_stay_built() {
-        assert!(rt; is_built_after(rt.alloc(), from, to)?, "at {to}");
+        assert!(rt; judged_after(rt.alloc(), from, to)?.is_ok(), "at {to}");
     }
-    for (from, to) in changes_that_do_not() {
-        assert!(rt; !is_built_after(rt.alloc(), from, to)?, "at {to}");
+    for (from, to, line) in changes_that_are_not_built() {
+        let fault = ReadFault::Refused(Judged::NotBuilt { line });
+        assert_eq!(rt; judged_after(rt.alloc(), from, to)?, Err(fault), "at {to}");
     }
     Ok(())
 }
