@@ -91,6 +91,7 @@ fn declared(alloc: Global, keyword: Keyword, rest: &[&[u8]]) -> Result<Statement
     }
 }
 
+/// `stages N`, from what stands after its first token.
 #[tactic(auto, unfolding(crate::specs::Forms::declared_in))]
 fn stages(rest: &[&[u8]]) -> Result<Statement, Unread>
     ensures { Answers result (declared_in Keyword.Stages (texts rest.now)) }
@@ -99,6 +100,7 @@ fn stages(rest: &[&[u8]]) -> Result<Statement, Unread>
     Ok(Statement::Stages { count })
 }
 
+/// `address A`, from what stands after its first token.
 #[tactic(auto, unfolding(crate::specs::Forms::declared_in))]
 fn address(rest: &[&[u8]]) -> Result<Statement, Unread>
     ensures { Answers result (declared_in Keyword.Address (texts rest.now)) }
@@ -107,6 +109,7 @@ fn address(rest: &[&[u8]]) -> Result<Statement, Unread>
     Ok(Statement::Address { bits })
 }
 
+/// `word W`, from what stands after its first token.
 #[tactic(auto, unfolding(crate::specs::Forms::declared_in))]
 fn word(rest: &[&[u8]]) -> Result<Statement, Unread>
     ensures { Answers result (declared_in Keyword.Word (texts rest.now)) }
@@ -115,6 +118,7 @@ fn word(rest: &[&[u8]]) -> Result<Statement, Unread>
     Ok(Statement::Word { bits })
 }
 
+/// `transfer B K`, from what stands after its first token.
 #[tactic(auto, unfolding(crate::specs::Forms::declared_in))]
 fn transfer(rest: &[&[u8]]) -> Result<Statement, Unread>
     ensures { Answers result (declared_in Keyword.Transfer (texts rest.now)) }
@@ -123,6 +127,7 @@ fn transfer(rest: &[&[u8]]) -> Result<Statement, Unread>
     Ok(Statement::Transfer { stage, slots })
 }
 
+/// `reg NAME WIDTH RESET`, from what stands after its first token.
 #[tactic(auto, unfolding(crate::specs::Forms::declared_in))]
 fn reg(alloc: Global, rest: &[&[u8]]) -> Result<Statement, Unread>
     ensures { Answers result (declared_in Keyword.Reg (texts rest.now)) }
@@ -136,6 +141,7 @@ fn reg(alloc: Global, rest: &[&[u8]]) -> Result<Statement, Unread>
     Ok(Statement::Reg { name, width, reset })
 }
 
+/// `file NAME WIDTH CELLS READS WRITES`, from what stands after its first token.
 #[tactic(auto, unfolding(crate::specs::Forms::declared_in))]
 fn file(alloc: Global, rest: &[&[u8]]) -> Result<Statement, Unread>
     ensures { Answers result (declared_in Keyword.File (texts rest.now)) }
@@ -157,6 +163,7 @@ fn file(alloc: Global, rest: &[&[u8]]) -> Result<Statement, Unread>
     })
 }
 
+/// `mem NAME ADDRESSBITS WIDTH`, from what stands after its first token.
 #[tactic(auto, unfolding(crate::specs::Forms::declared_in))]
 fn mem(alloc: Global, rest: &[&[u8]]) -> Result<Statement, Unread>
     ensures { Answers result (declared_in Keyword.Mem (texts rest.now)) }
@@ -174,6 +181,7 @@ fn mem(alloc: Global, rest: &[&[u8]]) -> Result<Statement, Unread>
     })
 }
 
+/// `in NAME WIDTH`, from what stands after its first token.
 #[tactic(auto, unfolding(crate::specs::Forms::declared_in))]
 fn input(alloc: Global, rest: &[&[u8]]) -> Result<Statement, Unread>
     ensures { Answers result (declared_in Keyword.In (texts rest.now)) }
@@ -186,6 +194,7 @@ fn input(alloc: Global, rest: &[&[u8]]) -> Result<Statement, Unread>
     Ok(Statement::In { name, width })
 }
 
+/// `unit NAME KIND WIDTH`, from what stands after its first token.
 #[tactic(auto, unfolding(crate::specs::Forms::declared_in))]
 fn unit(alloc: Global, rest: &[&[u8]]) -> Result<Statement, Unread>
     ensures { Answers result (declared_in Keyword.Unit (texts rest.now)) }
@@ -199,6 +208,7 @@ fn unit(alloc: Global, rest: &[&[u8]]) -> Result<Statement, Unread>
     Ok(Statement::Unit { name, kind, width })
 }
 
+/// `format NAME FIELD:WIDTH ..`, with at least one field, from what stands after its first token.
 #[tactic(auto, unfolding(crate::specs::Forms::format_in))]
 fn format_of(alloc: Global, rest: &[&[u8]]) -> Result<Statement, Unread>
     ensures { Answers result (format_in (texts rest.now)) }
@@ -214,6 +224,7 @@ fn format_of(alloc: Global, rest: &[&[u8]]) -> Result<Statement, Unread>
     Ok(Statement::Format { name, fields })
 }
 
+/// `instr NAME FORMAT FIELD=VALUE ..`, with any number of fields, from what stands after its first token.
 #[tactic(auto, unfolding(crate::specs::Forms::instr_in))]
 fn instr(alloc: Global, rest: &[&[u8]]) -> Result<Statement, Unread>
     ensures { Answers result (instr_in (texts rest.now)) }
@@ -231,6 +242,7 @@ fn instr(alloc: Global, rest: &[&[u8]]) -> Result<Statement, Unread>
     })
 }
 
+/// `end`, after which nothing stands.
 #[tactic(auto, unfolding(crate::specs::Forms::declared_in))]
 fn end(rest: &[&[u8]]) -> Result<Statement, Unread>
     ensures { Answers result (declared_in Keyword.End (texts rest.now)) }

@@ -1,5 +1,5 @@
 ghost use Rattle.std.specs.Prelude.{[], ◌∷◌};
-ghost use Rattle.ap_read.specs.Answers.{Answers};
+ghost use Rattle.ap_read.specs.Answers.{Answers, SurelyAnswers};
 ghost use Rattle.ap_read.specs.Parts as parts;
 ghost use Rattle.ap_read.specs.Parts.{named, numeral, operand, texts, values_in};
 
@@ -10,7 +10,7 @@ use std::alloc::Global;
 
 /// One number.
 pub fn one_number(tokens: &[&[u8]]) -> Result<u64, Unread>
-    ensures { Answers result (values_in (numeral ∷ []) (texts tokens.now)) }
+    ensures { SurelyAnswers result (values_in (numeral ∷ []) (texts tokens.now)) }
 {
     let [number] = tokens else {
         return Err(Unread::NoForm);
@@ -20,7 +20,7 @@ pub fn one_number(tokens: &[&[u8]]) -> Result<u64, Unread>
 
 /// Two numbers.
 pub fn two_numbers(tokens: &[&[u8]]) -> Result<(u64, u64), Unread>
-    ensures { Answers result (values_in (numeral ∷ numeral ∷ []) (texts tokens.now)) }
+    ensures { SurelyAnswers result (values_in (numeral ∷ numeral ∷ []) (texts tokens.now)) }
 {
     let [first, second] = tokens else {
         return Err(Unread::NoForm);

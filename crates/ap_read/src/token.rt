@@ -5,7 +5,7 @@ ghost use Rattle.std.specs.Str.{bytes_eq};
 ghost use Rattle.ap_bits.specs.Names as names;
 ghost use Rattle.ap_desc.specs.Reserved as reserved;
 ghost use Rattle.ap_text.specs.Numbers.{number_value};
-ghost use Rattle.ap_read.specs.Answers.{Answers};
+ghost use Rattle.ap_read.specs.Answers.{Answers, SurelyAnswers};
 ghost use Rattle.ap_read.specs.Parts as parts;
 ghost use Rattle.ap_read.specs.Parts.{cut_on, texts};
 
@@ -103,7 +103,7 @@ pub fn name_in(alloc: Global, token: &[u8]) -> Result<Name, Unread>
 
 /// The number that a token is.
 pub fn number_in(token: &[u8]) -> Result<u64, Unread>
-    ensures { Answers result (number_value token.now) }
+    ensures { SurelyAnswers result (number_value token.now) }
 {
     number(token).map_err(|_| Unread::NoForm)
 }
@@ -142,7 +142,7 @@ pub fn cut(token: &[u8], byte: u8) -> Option<(&[u8], &[u8])>
 /// The number of a port: what stands after the point is this letter and one digit.
 #[tactic(auto, unfolding(crate::specs::Parts::port_in))]
 pub fn port_in(part: &[u8], letter: u8) -> Result<u64, Unread>
-    ensures { Answers result (parts.port_in letter part.now) }
+    ensures { SurelyAnswers result (parts.port_in letter part.now) }
 {
     let [first, digit] = part else {
         return Err(Unread::NoForm);
