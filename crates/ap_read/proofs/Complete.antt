@@ -16,7 +16,7 @@ use Rattle.ap_desc.specs.Reserved.{is_free_name}
 use Rattle.ap_desc.specs.Spelling.{Token, exactly, number, operand as operand_token, part_of, width_token, value_token, has_fields, field_names, guard_names, guard_tokens, word_names, is_small, IsToken, Spells}
 use Rattle.ap_read.specs.declared.declaration.Keyword.{Keyword}
 use Rattle.ap_read.specs.declared.declaration.Keyword.TheVariants as k
-use Rattle.ap_read.specs.Forms.{format_in, instr_in, declared_in, declaration_in, read_port_in, compute_in, read_part_in, read_register_in, slice_in, plain_source_in, source_in, write_register_in, signed_in, write_part_in, plain_micro_in, micro_in, statement_in}
+use Rattle.ap_read.specs.Forms.{format_in, instr_in, declared_in, declaration_in, read_port_in, compute_in, read_part_in, read_register_in, const_in, zext_in, sext_in, slice_in, plain_source_in, source_in, write_register_in, signed_in, write_part_in, plain_micro_in, micro_in, statement_in}
 use Rattle.ap_read.specs.Parts.{Part, named, numeral, operand, Values, values_in, name_in, word_in, cut_on}
 use Rattle.ap_read.proofs.Keywords.{word_of, no_number, keyword_to}
 use Rattle.ap_read.proofs.Names.{unlike, name_to, free_without}
@@ -220,7 +220,7 @@ later stage b h = (and_parts (nat_lt stage (2 ^ 64)) b h).1
 
 -- tokens give the statement that they spell
 pub complete : (m : Statement) (tokens : List (List ℕ)) → Spells m tokens → statement_in tokens ≡ Some m
-unfolding declared_in plain_source_in slice_in micro_in plain_micro_in
+unfolding declared_in plain_source_in const_in zext_in sext_in slice_in micro_in plain_micro_in
 complete (s.Stages count) tokens h = declared_to k.Stages (number count ∷ []) tokens (s.Stages count) h.spelled (λ rest g. made_to (numeral ∷ []) (λ v. s.Stages v) count rest (record { names = h.spellable.names; numbers = h.spellable.numbers; spelled = g }))
 complete (s.Address bits) tokens h = declared_to k.Address (number bits ∷ []) tokens (s.Address bits) h.spelled (λ rest g. made_to (numeral ∷ []) (λ v. s.Address v) bits rest (record { names = h.spellable.names; numbers = h.spellable.numbers; spelled = g }))
 complete (s.Word bits) tokens h = declared_to k.Word (number bits ∷ []) tokens (s.Word bits) h.spelled (λ rest g. made_to (numeral ∷ []) (λ v. s.Word v) bits rest (record { names = h.spellable.names; numbers = h.spellable.numbers; spelled = g }))

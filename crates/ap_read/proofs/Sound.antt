@@ -15,7 +15,7 @@ use Rattle.ap_desc.specs.Reserved.{is_free_name}
 use Rattle.ap_desc.specs.Spelling.{has_fields, field_names, guard_names, word_names, is_formed, is_small, names_of, spelling, number, IsToken, Spells}
 use Rattle.ap_read.specs.declared.declaration.Keyword.{Keyword}
 use Rattle.ap_read.specs.declared.declaration.Keyword.TheVariants as k
-use Rattle.ap_read.specs.Forms.{keyword_in, format_in, instr_in, declared_in, declaration_in, port_read, read_port_in, compute_in, read_part_in, read_register_in, slice_in, plain_source_in, source_by, source_in, write_register_in, signed_in, port_write, write_part_in, plain_micro_in, micro_by, micro_in, statement_by, statement_in}
+use Rattle.ap_read.specs.Forms.{keyword_in, format_in, instr_in, declared_in, declaration_in, port_read, read_port_in, compute_in, read_part_in, read_register_in, const_in, zext_in, sext_in, slice_in, plain_source_in, source_by, source_in, write_register_in, signed_in, port_write, write_part_in, plain_micro_in, micro_by, micro_in, statement_by, statement_in}
 use Rattle.ap_read.specs.Parts.{Part, named, numeral, operand, Values, values_in, beside, name_in, word_in, guard_in, cut_on, port_in, fields_in}
 use Rattle.ap_read.proofs.Keywords.{word_of, keyword_from}
 use Rattle.ap_read.proofs.Names.{name_from}
@@ -161,7 +161,7 @@ slice_sound stage to token local sign first rest m a e h =
     told (s.Slice stage to v.0 v.1.0 v.1.1) (token ∷ local ∷ sign ∷ first ∷ rest) (free to (word_names v.1.1) a.free g.names) (small_stage stage token _ a.at g.numbers) refl (p, (q, (r, (w, g.spelled)))))
 
 plain_source_sound : (stage : ℕ) (to token local sign first : List ℕ) (rest : List (List ℕ)) (m : Statement) → Assigns stage to token local sign → plain_source_in stage to first rest ≡ Some m → Spells m (token ∷ local ∷ sign ∷ first ∷ rest)
-unfolding plain_source_in
+unfolding plain_source_in const_in zext_in sext_in
 plain_source_sound stage to token local sign first rest m a h =
     let tokens = token ∷ local ∷ sign ∷ first ∷ rest in
     choose (bytes_eq first (codes "in")) (option_map (λ v. s.ReadInput stage to v) (values_in (named ∷ []) rest)) _ (Some m) h

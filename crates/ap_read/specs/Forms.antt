@@ -80,6 +80,15 @@ unfoldable pub read_register_in : ℕ → List ℕ → List ℕ → List (List �
 read_register_in stage to reg [] = option_map (λ v. s.ReadRegister stage to v) (name_in reg)
 read_register_in stage to reg (more ∷ rest) = None
 
+unfoldable pub const_in : ℕ → List ℕ → List (List ℕ) → Option Statement
+const_in stage to rest = option_map (λ v. s.Const stage to v.0 v.1) (values_in (numeral ∷ numeral ∷ []) rest)
+
+unfoldable pub zext_in : ℕ → List ℕ → List (List ℕ) → Option Statement
+zext_in stage to rest = option_map (λ v. s.Zext stage to v.0 v.1) (values_in (numeral ∷ operand ∷ []) rest)
+
+unfoldable pub sext_in : ℕ → List ℕ → List (List ℕ) → Option Statement
+sext_in stage to rest = option_map (λ v. s.Sext stage to v.0 v.1) (values_in (numeral ∷ operand ∷ []) rest)
+
 unfoldable pub slice_in : ℕ → List ℕ → List (List ℕ) → Option Statement
 slice_in stage to rest = option_map (λ v. s.Slice stage to v.0 v.1.0 v.1.1) (values_in (numeral ∷ numeral ∷ operand ∷ []) rest)
 
@@ -87,9 +96,9 @@ slice_in stage to rest = option_map (λ v. s.Slice stage to v.0 v.1.0 v.1.1) (va
 unfoldable pub plain_source_in : ℕ → List ℕ → List ℕ → List (List ℕ) → Option Statement
 plain_source_in stage to first rest =
     if bytes_eq first (codes "in") then option_map (λ v. s.ReadInput stage to v) (values_in (named ∷ []) rest)
-    else if bytes_eq first (codes "const") then option_map (λ v. s.Const stage to v.0 v.1) (values_in (numeral ∷ numeral ∷ []) rest)
-    else if bytes_eq first (codes "zext") then option_map (λ v. s.Zext stage to v.0 v.1) (values_in (numeral ∷ operand ∷ []) rest)
-    else if bytes_eq first (codes "sext") then option_map (λ v. s.Sext stage to v.0 v.1) (values_in (numeral ∷ operand ∷ []) rest)
+    else if bytes_eq first (codes "const") then const_in stage to rest
+    else if bytes_eq first (codes "zext") then zext_in stage to rest
+    else if bytes_eq first (codes "sext") then sext_in stage to rest
     else if bytes_eq first (codes "slice") then slice_in stage to rest
     else if bytes_eq first (codes "cat") then option_map (λ v. s.Cat stage to v.0 v.1) (values_in (operand ∷ operand ∷ []) rest)
     else read_register_in stage to first rest

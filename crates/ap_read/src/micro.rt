@@ -1,5 +1,5 @@
 ghost use Rattle.ap_read.specs.Answers.{Answers};
-ghost use Rattle.ap_read.specs.Forms.{compute_in, micro_in, plain_micro_in, plain_source_in, read_part_in, read_port_in, read_register_in, signed_in, slice_in, source_in, write_part_in, write_register_in};
+ghost use Rattle.ap_read.specs.Forms.{compute_in, const_in, micro_in, plain_micro_in, plain_source_in, read_part_in, read_port_in, read_register_in, sext_in, signed_in, slice_in, source_in, write_part_in, write_register_in, zext_in};
 ghost use Rattle.ap_read.specs.Parts.{texts};
 
 use crate::parts::{guard_in, number_and_word, one_name, one_word, two_numbers, two_words};
@@ -228,31 +228,13 @@ fn plain_source(
         return Ok(Statement::ReadInput { stage, to, input });
     }
     if is(first, "const") {
-        let (width, value) = two_numbers(rest)?;
-        return Ok(Statement::Const {
-            stage,
-            to,
-            width,
-            value,
-        });
+        return constant(stage, to, rest);
     }
     if is(first, "zext") {
-        let (width, a) = number_and_word(alloc, rest)?;
-        return Ok(Statement::Zext {
-            stage,
-            to,
-            width,
-            a,
-        });
+        return zext(alloc, stage, to, rest);
     }
     if is(first, "sext") {
-        let (width, a) = number_and_word(alloc, rest)?;
-        return Ok(Statement::Sext {
-            stage,
-            to,
-            width,
-            a,
-        });
+        return sext(alloc, stage, to, rest);
     }
     if is(first, "slice") {
         return slice_of(alloc, stage, to, rest);
@@ -262,6 +244,48 @@ fn plain_source(
         return Ok(Statement::Cat { stage, to, a, b });
     }
     read_register(alloc, stage, to, first, rest)
+}
+
+/// `S x = const W V`, from what stands after `const`.
+#[tactic(auto, unfolding(crate::specs::Forms::const_in))]
+fn constant(stage: u64, to: Name, rest: &[&[u8]]) -> Result<Statement, Unread>
+    ensures { Answers result (const_in stage to (texts rest.now)) }
+{
+    let (width, value) = two_numbers(rest)?;
+    Ok(Statement::Const {
+        stage,
+        to,
+        width,
+        value,
+    })
+}
+
+/// `S x = zext W a`, from what stands after `zext`.
+#[tactic(auto, unfolding(crate::specs::Forms::zext_in))]
+fn zext(alloc: Global, stage: u64, to: Name, rest: &[&[u8]]) -> Result<Statement, Unread>
+    ensures { Answers result (zext_in stage to (texts rest.now)) }
+{
+    let (width, a) = number_and_word(alloc, rest)?;
+    Ok(Statement::Zext {
+        stage,
+        to,
+        width,
+        a,
+    })
+}
+
+/// `S x = sext W a`, from what stands after `sext`.
+#[tactic(auto, unfolding(crate::specs::Forms::sext_in))]
+fn sext(alloc: Global, stage: u64, to: Name, rest: &[&[u8]]) -> Result<Statement, Unread>
+    ensures { Answers result (sext_in stage to (texts rest.now)) }
+{
+    let (width, a) = number_and_word(alloc, rest)?;
+    Ok(Statement::Sext {
+        stage,
+        to,
+        width,
+        a,
+    })
 }
 
 /// `S x = slice H L a`, from what stands after `slice`.
