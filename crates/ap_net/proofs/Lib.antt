@@ -1,13 +1,17 @@
 pub mod NameLemmas
 pub mod Lists
 pub mod Wired
+pub mod Connected
 pub mod Drafts
 pub mod Steps
 pub mod Numbering
 pub mod Renumbered
+pub mod Parts
 pub mod Finished
 pub mod Among
 pub mod Fronts
+pub mod Netlists
+pub mod Whole
 pub mod Solution
 pub mod Fits
 pub mod Unique

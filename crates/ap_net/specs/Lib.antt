@@ -1,8 +1,9 @@
 pub mod Names
 pub mod Cells
 pub mod Wiring
-pub mod Draft
 pub mod Modules
+pub mod Opened
+pub mod Draft
 pub mod Places
 pub mod Flat
 pub mod Finished

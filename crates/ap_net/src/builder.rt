@@ -1,50 +1,50 @@
-ghost use Rattle.std.specs.Prelude.{◌≡◌, ℕ, ◌+◌, ◌<◌, ◌≤◌, ◌∷◌, ◌++◌, [], List, length, OnOk, OnErr, IfOk, ◌^◌, slice_get, Some, if◌then◌else◌};
+ghost use Rattle.std.specs.Prelude.{◌≡◌, ℕ, ◌+◌, ◌<◌, ◌≤◌, ◌∷◌, ◌++◌, [], List, length, map, codes, OnOk, OnErr, IfOk, ◌^◌, slice_get, Some, if◌then◌else◌};
+ghost use Rattle.std.specs.List.{AllByRecursion as Each};
 ghost use Rattle.ap_net.specs.Names.{IsNetName, IsNew, IsNotNumbered, numbered};
 ghost use Rattle.ap_net.specs.Cells.{IsNet, CellFits, cell_value};
-ghost use Rattle.ap_net.specs.Wiring.{IsFree, reset_of, NextFits, IsDriven, Undriven, Unclocked, taken_names};
-ghost use Rattle.ap_net.specs.Modules.{ports_among};
+ghost use Rattle.ap_net.specs.Wiring.{IsFree, reset_of, NextFits, IsDriven, Undriven, Unjoined, Unclocked, AreApart, driven_among};
+ghost use Rattle.ap_net.specs.Modules.{ports_among, outputs, instance_of};
 ghost use Rattle.ap_net.specs.Finished.{IsFinished};
-ghost use Rattle.ap_net.specs.Draft.{Draft, Adds, Closes, Makes, CanFresh, SettlesDraft, is_plain, wire_count};
+ghost use Rattle.ap_net.specs.Draft.{Draft, Adds, Closes, Makes, CanFresh, SettlesDraft, names_of, is_plain, wire_count};
 
 use crate::NoMemory;
 use crate::cell::{Cell, Wire};
 use crate::finish::finished;
 use crate::module::Module;
 use crate::name::NetName;
-use crate::net::{Assign, FlatNet, Next, Role};
+use crate::net::{Assign, Instance, ModuleNet, Next, Port, Role};
+use ap_bits::Items;
 use std::alloc::Global;
 use std::marker::Model;
 
-/// A module that is being built. Contracts see its name, its nets in the order of their declaration, its assigns and the
-/// drivers of its registers, with all the rules on them that hold from the first declaration on.
+/// A module that is being built. Contracts see its name, its nets in the order of their declaration, its assigns, the drivers
+/// of its registers and its instances, with all the rules on them that hold from the first declaration on.
 #[derive(Drop)]
 pub struct Builder {
     alloc: Global,
     name: NetName,
-    nets: Vec<FlatNet>,
+    nets: Vec<ModuleNet>,
     assigns: Vec<Assign>,
     nexts: Vec<Next>,
+    instances: Vec<Instance>,
     wires: usize,
 }
 
 impl Model for Builder {
-    ghost use Rattle.std.specs.Prelude.{◌≡◌};
-    ghost use Rattle.ap_net.specs.Names.{IsNetName};
-    ghost use Rattle.ap_net.specs.Wiring.{IsWired};
-    ghost use Rattle.ap_net.specs.Draft.{Draft, wire_count};
+    ghost use Rattle.ap_net.specs.Draft.{Draft, IsDraft};
 
     ghost Value = { Draft };
 
-    ghost view = { λ b. record { name = b.name; nets = b.nets.items; assigns = b.assigns.items; nexts = b.nexts.items } };
+    ghost view = { λ b. record { name = b.name; nets = b.nets.items; assigns = b.assigns.items; nexts = b.nexts.items; instances = b.instances.items } };
 
-    ghost invariant = { λ b. IsNetName b.name × IsWired b.nets.items b.assigns.items b.nexts.items × (b.wires ≡ wire_count b.nets.items) };
+    ghost invariant = { λ b. IsDraft (record { name = b.name; nets = b.nets.items; assigns = b.assigns.items; nexts = b.nexts.items; instances = b.instances.items }) b.wires };
 }
 
 impl Builder {
     /// A module of this name, with `clk` and `rst` and nothing else.
     pub fn new(alloc: Global, name: &[u8]) -> Result<Builder, NoMemory>
         requires { IsNetName name.now }
-        ensures { IfOk result (λ made. made ≡ record { name = name.now; nets = []; assigns = []; nexts = [] }) }
+        ensures { IfOk result (λ made. made ≡ record { name = name.now; nets = []; assigns = []; nexts = []; instances = [] }) }
     {
         let name = NetName::new(alloc, name)?;
         Ok(Builder {
@@ -53,9 +53,32 @@ impl Builder {
             nets: Vec::new(alloc),
             assigns: Vec::new(alloc),
             nexts: Vec::new(alloc),
+            instances: Vec::new(alloc),
             wires: 0,
         })
     }
+}
+
+/// The nets in a list.
+fn listed(alloc: Global, nets: &[Wire]) -> Result<Items<Wire>, NoMemory>
+    ensures { IfOk result (λ list. list ≡ nets.now) }
+{
+    let mut list = Items::new(alloc);
+    for net in nets {
+        list.push(*net)?;
+    }
+    Ok(list)
+}
+
+/// Which of these ports are outputs.
+fn outputs_of(alloc: Global, ports: &[Port]) -> Result<Items<bool>, NoMemory>
+    ensures { IfOk result (λ list. list ≡ map (λ p. p.output) ports.now) }
+{
+    let mut list = Items::new(alloc);
+    for port in ports {
+        list.push(port.output)?;
+    }
+    Ok(list)
 }
 
 /// How many wires a net of this role is.
@@ -72,20 +95,20 @@ impl Builder {
     /// Declares a net; the name is its own.
     fn declare(&mut self, name: NetName, width: u32, role: Role) -> Result<Wire, NoMemory>
         requires is_name { IsNetName name }
-        requires name { IsNew name (taken_names self.old.nets) }
+        requires name { IsNew name (names_of self.old) }
         requires low { 1 ≤ width }
         requires high { width ≤ 64 }
         requires reset { reset_of role < 2 ^ width }
         ensures ok { OnOk result (self.new ≡ record self.old { nets = self.old.nets ++ record { name = name; width = width; role = role } ∷ [] }) }
         ensures wire { IfOk result (λ w. w ≡ record { number = length self.old.nets; width = width }) }
         ensures adds { OnOk result (Adds self.old self.new) }
-        ensures named { OnOk result (IsNotNumbered name → CanFresh self.old.nets → CanFresh self.new.nets) }
-        ensures numbered { OnOk result (name ≡ numbered (wire_count self.old.nets) → role ≡ Role.Plain → CanFresh self.old.nets → CanFresh self.new.nets) }
+        ensures named { OnOk result (IsNotNumbered name → CanFresh self.old → CanFresh self.new) }
+        ensures numbered { OnOk result (name ≡ numbered (wire_count self.old.nets) → role ≡ Role.Plain → CanFresh self.old → CanFresh self.new) }
         ensures err { OnErr result (self.new ≡ self.old) }
     {
         let wires = self.wires + wires_in(role);
         let number = self.nets.len();
-        self.nets.push(FlatNet { name, width, role })?;
+        self.nets.push(ModuleNet { name, width, role })?;
         self.wires = wires;
         Ok(Wire { number, width })
     }
@@ -93,14 +116,14 @@ impl Builder {
     /// Declares a net of this role under a name that isn't there.
     fn named(&mut self, name: &[u8], width: u32, role: Role) -> Result<Wire, NoMemory>
         requires is_name { IsNetName name.now }
-        requires name { IsNew name.now (taken_names self.old.nets) }
+        requires name { IsNew name.now (names_of self.old) }
         requires low { 1 ≤ width }
         requires high { width ≤ 64 }
         requires reset { reset_of role < 2 ^ width }
         ensures ok { OnOk result (self.new ≡ record self.old { nets = self.old.nets ++ record { name = name.now; width = width; role = role } ∷ [] }) }
         ensures wire { IfOk result (λ w. w ≡ record { number = length self.old.nets; width = width }) }
         ensures adds { OnOk result (Adds self.old self.new) }
-        ensures fresh { OnOk result (IsNotNumbered name.now → CanFresh self.old.nets → CanFresh self.new.nets) }
+        ensures fresh { OnOk result (IsNotNumbered name.now → CanFresh self.old → CanFresh self.new) }
         ensures err { OnErr result (self.new ≡ self.old) }
     {
         let name = NetName::new(self.alloc, name)?;
@@ -109,13 +132,13 @@ impl Builder {
 
     /// A wire whose name is `n` and the decimal number of the wires declared before it. After an error nothing changed.
     pub fn fresh(&mut self, width: u32) -> Result<Wire, NoMemory>
-        requires name { IsNew (numbered (wire_count self.old.nets)) (taken_names self.old.nets) }
+        requires name { IsNew (numbered (wire_count self.old.nets)) (names_of self.old) }
         requires low { 1 ≤ width }
         requires high { width ≤ 64 }
         ensures ok { OnOk result (self.new ≡ record self.old { nets = self.old.nets ++ record { name = numbered (wire_count self.old.nets); width = width; role = Role.Plain } ∷ [] }) }
         ensures wire { IfOk result (λ w. w ≡ record { number = length self.old.nets; width = width }) }
         ensures adds { OnOk result (Adds self.old self.new) }
-        ensures fresh { OnOk result (CanFresh self.old.nets → CanFresh self.new.nets) }
+        ensures fresh { OnOk result (CanFresh self.old → CanFresh self.new) }
         ensures err { OnErr result (self.new ≡ self.old) }
     {
         let name = NetName::numbered(self.alloc, self.wires)?;
@@ -125,13 +148,13 @@ impl Builder {
     /// Declares an input port.
     pub fn input(&mut self, name: &[u8], width: u32) -> Result<Wire, NoMemory>
         requires is_name { IsNetName name.now }
-        requires name { IsNew name.now (taken_names self.old.nets) }
+        requires name { IsNew name.now (names_of self.old) }
         requires low { 1 ≤ width }
         requires high { width ≤ 64 }
         ensures ok { OnOk result (self.new ≡ record self.old { nets = self.old.nets ++ record { name = name.now; width = width; role = Role.Input } ∷ [] }) }
         ensures wire { IfOk result (λ w. w ≡ record { number = length self.old.nets; width = width }) }
         ensures adds { OnOk result (Adds self.old self.new) }
-        ensures fresh { OnOk result (IsNotNumbered name.now → CanFresh self.old.nets → CanFresh self.new.nets) }
+        ensures fresh { OnOk result (IsNotNumbered name.now → CanFresh self.old → CanFresh self.new) }
         ensures err { OnErr result (self.new ≡ self.old) }
     {
         self.named(name, width, Role::Input)
@@ -140,13 +163,13 @@ impl Builder {
     /// Declares an output port.
     pub fn output(&mut self, name: &[u8], width: u32) -> Result<Wire, NoMemory>
         requires is_name { IsNetName name.now }
-        requires name { IsNew name.now (taken_names self.old.nets) }
+        requires name { IsNew name.now (names_of self.old) }
         requires low { 1 ≤ width }
         requires high { width ≤ 64 }
         ensures ok { OnOk result (self.new ≡ record self.old { nets = self.old.nets ++ record { name = name.now; width = width; role = Role.Output } ∷ [] }) }
         ensures wire { IfOk result (λ w. w ≡ record { number = length self.old.nets; width = width }) }
         ensures adds { OnOk result (Adds self.old self.new) }
-        ensures fresh { OnOk result (IsNotNumbered name.now → CanFresh self.old.nets → CanFresh self.new.nets) }
+        ensures fresh { OnOk result (IsNotNumbered name.now → CanFresh self.old → CanFresh self.new) }
         ensures err { OnErr result (self.new ≡ self.old) }
     {
         self.named(name, width, Role::Output)
@@ -155,13 +178,13 @@ impl Builder {
     /// Declares a wire of this name.
     pub fn wire(&mut self, name: &[u8], width: u32) -> Result<Wire, NoMemory>
         requires is_name { IsNetName name.now }
-        requires name { IsNew name.now (taken_names self.old.nets) }
+        requires name { IsNew name.now (names_of self.old) }
         requires low { 1 ≤ width }
         requires high { width ≤ 64 }
         ensures ok { OnOk result (self.new ≡ record self.old { nets = self.old.nets ++ record { name = name.now; width = width; role = Role.Plain } ∷ [] }) }
         ensures wire { IfOk result (λ w. w ≡ record { number = length self.old.nets; width = width }) }
         ensures adds { OnOk result (Adds self.old self.new) }
-        ensures fresh { OnOk result (IsNotNumbered name.now → CanFresh self.old.nets → CanFresh self.new.nets) }
+        ensures fresh { OnOk result (IsNotNumbered name.now → CanFresh self.old → CanFresh self.new) }
         ensures err { OnErr result (self.new ≡ self.old) }
     {
         self.named(name, width, Role::Plain)
@@ -170,14 +193,14 @@ impl Builder {
     /// Declares a register, with its value after the reset edge.
     pub fn register(&mut self, name: &[u8], width: u32, reset: u64) -> Result<Wire, NoMemory>
         requires is_name { IsNetName name.now }
-        requires name { IsNew name.now (taken_names self.old.nets) }
+        requires name { IsNew name.now (names_of self.old) }
         requires low { 1 ≤ width }
         requires high { width ≤ 64 }
         requires reset { reset < 2 ^ width }
         ensures ok { OnOk result (self.new ≡ record self.old { nets = self.old.nets ++ record { name = name.now; width = width; role = Role.Register reset } ∷ [] }) }
         ensures wire { IfOk result (λ w. w ≡ record { number = length self.old.nets; width = width }) }
         ensures adds { OnOk result (Adds self.old self.new) }
-        ensures fresh { OnOk result (IsNotNumbered name.now → CanFresh self.old.nets → CanFresh self.new.nets) }
+        ensures fresh { OnOk result (IsNotNumbered name.now → CanFresh self.old → CanFresh self.new) }
         ensures err { OnErr result (self.new ≡ self.old) }
     {
         self.named(name, width, Role::Register(reset))
@@ -189,6 +212,7 @@ impl Builder {
         requires fits { CellFits self.old.nets to.width cell }
         requires free { IsFree self.old.nets to.number }
         requires undriven { Undriven self.old.assigns to.number }
+        requires unjoined { Unjoined self.old.instances to.number }
         ensures ok { OnOk result (self.new ≡ record self.old { assigns = self.old.assigns ++ record { to = to; cell = cell } ∷ [] }) }
         ensures err { OnErr result (self.new ≡ self.old) }
     {
@@ -207,9 +231,37 @@ impl Builder {
         Ok(())
     }
 
+    /// An instance of a finished module, whose ports after `clk` and `rst` are connected to these nets, in order. It drives the
+    /// nets at the module's outputs.
+    pub fn instance(&mut self, name: &[u8], whole: &Module, nets: &[Wire]) -> Result<(), NoMemory>
+        requires top { self.old.name ≡ codes "top" }
+        requires is_name { IsNetName name.now }
+        requires name { IsNew name.now (names_of self.old) }
+        requires widths { map (λ w. w.width) nets.now ≡ map (λ p. p.width) whole.now.ports }
+        requires nets { Each (IsNet self.old.nets) nets.now }
+        requires free { Each (IsFree self.old.nets) (driven_among (outputs whole.now) nets.now) }
+        requires undriven { Each (Undriven self.old.assigns) (driven_among (outputs whole.now) nets.now) }
+        requires unjoined { Each (Unjoined self.old.instances) (driven_among (outputs whole.now) nets.now) }
+        requires apart { AreApart (driven_among (outputs whole.now) nets.now) }
+        ensures ok { OnOk result (self.new ≡ record self.old { instances = self.old.instances ++ instance_of name.now whole.now nets.now ∷ [] }) }
+        ensures err { OnErr result (self.new ≡ self.old) }
+    {
+        let name = NetName::new(self.alloc, name)?;
+        let module_name = whole.name().copy(self.alloc)?;
+        let nets = listed(self.alloc, nets)?;
+        let drives = outputs_of(self.alloc, whole.ports())?;
+        self.instances.push(Instance {
+            name,
+            module: module_name,
+            nets,
+            drives,
+        })?;
+        Ok(())
+    }
+
     /// A fresh wire that this cell drives. After an error the builder is good for nothing but to be dropped.
     pub fn make(&mut self, width: u32, cell: Cell) -> Result<Wire, NoMemory>
-        requires fresh { CanFresh self.old.nets }
+        requires fresh { CanFresh self.old }
         requires low { 1 ≤ width }
         requires high { width ≤ 64 }
         requires fits { CellFits self.old.nets width cell }
@@ -226,7 +278,7 @@ impl Builder {
     /// An output port that this cell drives. After an error the builder is good for nothing but to be dropped.
     pub fn show(&mut self, name: &[u8], width: u32, cell: Cell) -> Result<Wire, NoMemory>
         requires is_name { IsNetName name.now }
-        requires name { IsNew name.now (taken_names self.old.nets) }
+        requires name { IsNew name.now (names_of self.old) }
         requires low { 1 ≤ width }
         requires high { width ≤ 64 }
         requires fits { CellFits self.old.nets width cell }
@@ -236,7 +288,7 @@ impl Builder {
         ensures value { IfOk result (λ w. (read : ℕ → ℕ) → SettlesDraft self.new read → SettlesDraft self.old read × (read w.number ≡ cell_value read width cell)) }
         ensures adds { OnOk result (Adds self.old self.new) }
         ensures closes { OnOk result (Closes self.old self.new) }
-        ensures fresh { OnOk result (IsNotNumbered name.now → CanFresh self.old.nets → CanFresh self.new.nets) }
+        ensures fresh { OnOk result (IsNotNumbered name.now → CanFresh self.old → CanFresh self.new) }
     {
         let _ = &self.nets;
         let to = self.output(name, width)?;
@@ -247,7 +299,7 @@ impl Builder {
     /// The finished module: its nets stand by kind, ports first, then wires, then registers, each kind in the order of
     /// its declaration, and are numbered so.
     pub fn finish(self) -> Result<Module, NoMemory>
-        requires driven { IsDriven self.nets self.assigns self.nexts }
+        requires driven { IsDriven self.nets self.assigns self.nexts self.instances }
         requires port { 0 < length (ports_among self.nets) }
         ensures { IfOk result (IsFinished self) }
     {
@@ -257,8 +309,9 @@ impl Builder {
             nets,
             assigns,
             nexts,
+            instances,
             wires: _,
         } = self;
-        finished(alloc, name, &nets, &assigns, &nexts)
+        finished(alloc, name, &nets, &assigns, &nexts, &instances)
     }
 }

@@ -5,7 +5,7 @@ use Rattle.std.proofs.lemmas.Nat.{pow_pos}
 use Rattle.std.proofs.lemmas.List.{length-map}
 use Rattle.std.proofs.lemmas.Option.{slice_get_within, slice_get-map}
 use Rattle.ap_net.specs.declared.cell.Wire.{Wire}
-use Rattle.ap_net.specs.declared.net.FlatNet.{FlatNet}
+use Rattle.ap_net.specs.declared.net.ModuleNet.{ModuleNet}
 use Rattle.ap_net.specs.declared.net.Next.{Next}
 use Rattle.ap_net.specs.Cells.{IsNet, widths_of}
 use Rattle.ap_net.specs.Wiring.{IsSource}
@@ -40,15 +40,15 @@ module _ (form : Form) (ok : IsForm form) (d : Draft) (nets : Nets) (shown : IsS
   flat = record { nets = nets_of m; assigns = m.assigns; nexts = m.nexts }
 
   -- a net of the base stands in the draft
-  based : (n : ℕ) (net : FlatNet) → slice_get (base_nets form) n ≡ Some net → slice_get d.nets n ≡ Some net
+  based : (n : ℕ) (net : ModuleNet) → slice_get (base_nets form) n ≡ Some net → slice_get d.nets n ≡ Some net
   based n net at = net-Adds (base form) d n net shown.adds at
 
   -- and in the module, at its place
-  placed_net : (n : ℕ) (net : FlatNet) → slice_get d.nets n ≡ Some net → slice_get (nets_of m) (fin.place n) ≡ Some net
+  placed_net : (n : ℕ) (net : ModuleNet) → slice_get d.nets n ≡ Some net → slice_get (nets_of m) (fin.place n) ≡ Some net
   placed_net n net at = fin.nets n (slice_get_within d.nets n net at) ∙ at
 
   -- a net's value is found by its name
-  named : (v : List ℕ) → length v ≡ length (nets_of m) → (n : ℕ) (net : FlatNet) → slice_get d.nets n ≡ Some net → value_named (nets_of m) v net.name ≡ slice_index v (fin.place n)
+  named : (v : List ℕ) → length v ≡ length (nets_of m) → (n : ℕ) (net : ModuleNet) → slice_get d.nets n ≡ Some net → value_named (nets_of m) v net.name ≡ slice_index v (fin.place n)
   named v long n net at = found (nets_of m) kept.wired.distinct.1.1 v long (fin.place n) net (placed_net n net at)
 
   -- a draft's net as a valuation gives it
@@ -127,7 +127,7 @@ module _ (form : Form) (ok : IsForm form) (d : Draft) (nets : Nets) (shown : IsS
       subst (λ n. length (states n).registers ≡ length m.nexts) next (ap length (runs.goes j (omega arith)).after ∙ simp length-map)
 
   -- a register is found by its name
-  register_at : (registers : List ℕ) → length registers ≡ length m.nexts → (k : ℕ) (x : Next) (net : FlatNet) → slice_get (four_nexts form nets) k ≡ Some x → slice_get (base_nets form) x.register.number ≡ Some net
+  register_at : (registers : List ℕ) → length registers ≡ length m.nexts → (k : ℕ) (x : Next) (net : ModuleNet) → slice_get (four_nexts form nets) k ≡ Some x → slice_get (base_nets form) x.register.number ≡ Some net
       → register_named flat registers net.name ≡ slice_index registers k
   register_at registers count k x net at there =
       let stands : slice_get m.nexts k ≡ Some (next_placed fin.place x) = ap (λ (l : List Next). slice_get l k) fin.nexts ∙ slice_get-map (next_placed fin.place) (four_nexts form nets) k ∙ ap (option_map (next_placed fin.place)) at in
@@ -178,10 +178,10 @@ module _ (form : Form) (ok : IsForm form) (d : Draft) (nets : Nets) (shown : IsS
       let v : List ℕ = solution.0 in
       let solves : Solves flat v = solution.1 in
       let e : Equations form nets (read v) = (solved v solves).0 in
-      let takes : (k : ℕ) (net : FlatNet) → slice_get (base_nets form) k ≡ Some net → IsSource net.role → read v k ≡ given image.code wait r k (read v 4) = λ k net at is.
+      let takes : (k : ℕ) (net : ModuleNet) → slice_get (base_nets form) k ≡ Some net → IsSource net.role → read v k ≡ given image.code wait r k (read v 4) = λ k net at is.
       solution.2 (fin.place k) net (placed_net k net (based k net at)) is ∙ ap (λ n. given image.code wait r n (read v 4)) (fin.returns k (slice_get_within d.nets k net (based k net at))) in
       let registers : List ℕ = map (λ (x : Next). slice_index v x.from.number) m.nexts in
-      let word : slice_get (widths_of d.nets) 5 ≡ Some form.word = slice_get-map (λ (x : FlatNet). x.width) d.nets 5 ∙ ap (option_map (λ (x : FlatNet). x.width)) (based 5 _ refl) in (
+      let word : slice_get (widths_of d.nets) 5 ≡ Some form.word = slice_get-map (λ (x : ModuleNet). x.width) d.nets 5 ∙ ap (option_map (λ (x : ModuleNet). x.width)) (based 5 _ refl) in (
         v,
         record { registers = registers; mems = [] },
         record {

@@ -3,7 +3,7 @@ use Rattle.std.specs.List.{AllByRecursion as Each}
 use Rattle.std.specs.Prelude.{slice_index, slice_get, ◌==◌, if◌then◌else◌, bit_and}
 use Rattle.std.proofs.lemmas.Nat.{pow_pos}
 use Rattle.ap_net.specs.declared.net.Role.TheVariants as role
-use Rattle.ap_net.specs.declared.net.FlatNet.{FlatNet}
+use Rattle.ap_net.specs.declared.net.ModuleNet.{ModuleNet}
 use Rattle.ap_net.specs.declared.net.Next.{Next}
 use Rattle.ap_net.specs.Wiring.{IsSource, reset_of, Ranked, Unclocked, IsDriven}
 use Rattle.ap_net.specs.Draft.{Draft, AreDriven, RegistersBelow}
@@ -20,8 +20,8 @@ clocked_draft form d nets = record d { nexts = four_nexts form nets }
 pub same : {X : Type 0} {x y : X} → Some x ≡ Some y → x ≡ y
 same e = cc
 
-source : (x net : FlatNet) → Some x ≡ Some net → IsSource x.role → (IsSource net.role → ⊥) → ⊥
-source x net at is free = free (subst (λ (y : FlatNet). IsSource y.role) (same at) is)
+source : (x net : ModuleNet) → Some x ≡ Some net → IsSource x.role → (IsSource net.role → ⊥) → ⊥
+source x net at is free = free (subst (λ (y : ModuleNet). IsSource y.role) (same at) is)
 
 -- every port of the base is driven
 base_driven : (form : Form) → AreDriven (base form)
@@ -36,8 +36,8 @@ base_driven form (suc (suc (suc (suc (suc (suc (suc zero))))))) net at free none
 base_driven form (suc (suc (suc (suc (suc (suc (suc (suc zero)))))))) net at free none = none.1.1.0 refl
 base_driven form (suc (suc (suc (suc (suc (suc (suc (suc (suc n))))))))) net at free none = cc
 
-port : (x net : FlatNet) → Some x ≡ Some net → (x.role ≡ role.Register (reset_of net.role) → ⊥) → net.role ≡ role.Register (reset_of net.role) → ⊥
-port x net at never is = never (ap (λ (y : FlatNet). y.role) (same at) ∙ is)
+port : (x net : ModuleNet) → Some x ≡ Some net → (x.role ≡ role.Register (reset_of net.role) → ⊥) → net.role ≡ role.Register (reset_of net.role) → ⊥
+port x net at never is = never (ap (λ (y : ModuleNet). y.role) (same at) ∙ is)
 
 -- only the first four nets are registers
 base_registers : (form : Form) → RegistersBelow (base_nets form) 4
@@ -108,14 +108,14 @@ word_fits (word ∷ words) width zero h = h.0
 word_fits (word ∷ words) width (suc n) h = word_fits words width n h.1
 
 pub given_fits : (form : Form) (code : List ℕ) (wait : Bool) (r : List ℕ) → Each (λ word. word < 2 ^ form.word) code → FourFit form r
-    → (n address : ℕ) (net : FlatNet) → ((x : FlatNet) → slice_get (base_nets form) n ≡ Some x → x ≡ net) → given code wait r n address < 2 ^ net.width
-given_fits form code wait r h f zero address net is = subst (λ (x : FlatNet). slice_index r 0 < 2 ^ x.width) (is _ refl) f.pc
-given_fits form code wait r h f (suc zero) address net is = subst (λ (x : FlatNet). slice_index r 1 < 2 ^ x.width) (is _ refl) f.register
-given_fits form code wait r h f (suc (suc zero)) address net is = subst (λ (x : FlatNet). slice_index r 2 < 2 ^ x.width) (is _ refl) f.valid
-given_fits form code wait r h f (suc (suc (suc zero))) address net is = subst (λ (x : FlatNet). slice_index r 3 < 2 ^ x.width) (is _ refl) f.word
+    → (n address : ℕ) (net : ModuleNet) → ((x : ModuleNet) → slice_get (base_nets form) n ≡ Some x → x ≡ net) → given code wait r n address < 2 ^ net.width
+given_fits form code wait r h f zero address net is = subst (λ (x : ModuleNet). slice_index r 0 < 2 ^ x.width) (is _ refl) f.pc
+given_fits form code wait r h f (suc zero) address net is = subst (λ (x : ModuleNet). slice_index r 1 < 2 ^ x.width) (is _ refl) f.register
+given_fits form code wait r h f (suc (suc zero)) address net is = subst (λ (x : ModuleNet). slice_index r 2 < 2 ^ x.width) (is _ refl) f.valid
+given_fits form code wait r h f (suc (suc (suc zero))) address net is = subst (λ (x : ModuleNet). slice_index r 3 < 2 ^ x.width) (is _ refl) f.word
 given_fits form code wait r h f (suc (suc (suc (suc zero)))) address net is = pow_pos net.width
-given_fits form code wait r h f (suc (suc (suc (suc (suc zero))))) address net is = subst (λ (x : FlatNet). slice_index code address < 2 ^ x.width) (is _ refl) (word_fits code form.word address h)
-given_fits form code wait r h f (suc (suc (suc (suc (suc (suc zero)))))) address net is = subst (λ (x : FlatNet). bit wait < 2 ^ x.width) (is _ refl) (bit_fits wait)
+given_fits form code wait r h f (suc (suc (suc (suc (suc zero))))) address net is = subst (λ (x : ModuleNet). slice_index code address < 2 ^ x.width) (is _ refl) (word_fits code form.word address h)
+given_fits form code wait r h f (suc (suc (suc (suc (suc (suc zero)))))) address net is = subst (λ (x : ModuleNet). bit wait < 2 ^ x.width) (is _ refl) (bit_fits wait)
 given_fits form code wait r h f (suc (suc (suc (suc (suc (suc (suc n))))))) address net is = pow_pos net.width
 
 -- the valid bit and the word by their places

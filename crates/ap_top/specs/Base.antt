@@ -4,7 +4,7 @@ use Rattle.std.specs.Prelude.{◌≡◌, ℕ, ◌+◌, ◌%◌, ◌^◌, ◌==�
 use Rattle.ap_net.specs.declared.cell.Wire.{Wire}
 use Rattle.ap_net.specs.declared.cell.Cell.TheVariants as cell
 use Rattle.ap_net.specs.declared.net.Role.TheVariants.{Input, Output, Register}
-use Rattle.ap_net.specs.declared.net.FlatNet.{FlatNet}
+use Rattle.ap_net.specs.declared.net.ModuleNet.{ModuleNet}
 use Rattle.ap_net.specs.declared.net.Assign.{Assign}
 use Rattle.ap_net.specs.Cells.{IsNet}
 use Rattle.ap_net.specs.Draft.{Draft, Adds, Closes, Makes, SettlesDraft}
@@ -19,7 +19,7 @@ abbrev pub wire : ℕ → ℕ → Wire
 wire number width = record { number = number; width = width }
 
 -- the four registers
-abbrev pub four_registers : Form → List FlatNet
+abbrev pub four_registers : Form → List ModuleNet
 four_registers form = record { name = codes "pc"; width = form.address; role = Register 0 } ∷ record { name = codes "r_R"; width = form.width; role = Register form.start }
     ∷ record { name = codes "v_1"; width = 1; role = Register 0 } ∷ record { name = codes "x_1"; width = form.word; role = Register 0 } ∷ []
 
@@ -27,7 +27,7 @@ abbrev pub registers_alone : Form → Draft
 registers_alone form = record { name = codes "top"; nets = four_registers form; assigns = []; nexts = [] }
 
 -- and the first five ports
-abbrev pub base_nets : Form → List FlatNet
+abbrev pub base_nets : Form → List ModuleNet
 base_nets form = record { name = codes "pc"; width = form.address; role = Register 0 } ∷ record { name = codes "r_R"; width = form.width; role = Register form.start }
     ∷ record { name = codes "v_1"; width = 1; role = Register 0 } ∷ record { name = codes "x_1"; width = form.word; role = Register 0 }
     ∷ record { name = codes "iaddr"; width = form.address; role = Output } ∷ record { name = codes "idata"; width = form.word; role = Input } ∷ record { name = codes "mwait"; width = 1; role = Input }
