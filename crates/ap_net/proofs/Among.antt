@@ -71,3 +71,7 @@ wires_wide m h = mapped_wide wire_net m.wires (All-back _ (map port_net m.ports)
 
 pub regs_wide : (m : ModuleText) → Each (λ (n : ModuleNet). (1 ≤ n.width) × (n.width ≤ 64)) (nets_of m) → Each (λ (x : RegNet). 1 ≤ x.width) m.regs
 regs_wide m h = mapped_wide reg_net m.regs (All-back _ (map port_net m.ports ++ map wire_net m.wires) (map reg_net m.regs) h)
+
+-- and at most 64
+pub ports_within : (m : ModuleText) → Each (λ (n : ModuleNet). (1 ≤ n.width) × (n.width ≤ 64)) (nets_of m) → Each (λ (x : Port). (1 ≤ x.width) × (x.width ≤ 64)) m.ports
+ports_within m h = All-unmap (λ (n : ModuleNet). (1 ≤ n.width) × (n.width ≤ 64)) port_net m.ports (All-front _ (map port_net m.ports) (map wire_net m.wires) (All-front _ (map port_net m.ports ++ map wire_net m.wires) (map reg_net m.regs) h))

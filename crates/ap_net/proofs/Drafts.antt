@@ -189,7 +189,7 @@ Settles-made a net c read s = (
 )
 
 -- what stands in a list with one more element
-one_more_net : {X : Type 0} (xs : List X) (y : X) (n : ℕ) (x : X) → slice_get (xs ++ y ∷ []) n ≡ Some x → (slice_get xs n ≡ Some x) ⊎ ((n ≡ length xs) × (x ≡ y))
+pub one_more_net : {X : Type 0} (xs : List X) (y : X) (n : ℕ) (x : X) → slice_get (xs ++ y ∷ []) n ≡ Some x → (slice_get xs n ≡ Some x) ⊎ ((n ≡ length xs) × (x ≡ y))
 one_more_net [] y zero x h = let same : y ≡ x = cc in inr (refl, sym same)
 one_more_net [] y (suc n) x h = cc
 one_more_net (z ∷ xs) y zero x h = inl h

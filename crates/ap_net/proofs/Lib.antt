@@ -12,6 +12,9 @@ pub mod Among
 pub mod Fronts
 pub mod Netlists
 pub mod Whole
+pub mod Located
+pub mod OpenNetlists
+pub mod Placing
 pub mod Solution
 pub mod Fits
 pub mod Unique

@@ -11,7 +11,7 @@ use Rattle.ap_net.specs.Places.{has_port_role, has_register_role, is_port, is_re
 use Rattle.ap_net.proofs.Lists.{get_left, get_right, get_either}
 
 module _ {X : Type 0} (p : X → Bool) where
-  count_cons : (x : X) (xs : List X) → count_by p (x ∷ xs) ≡ (if p x then 1 else 0) + count_by p xs
+  pub count_cons : (x : X) (xs : List X) → count_by p (x ∷ xs) ≡ (if p x then 1 else 0) + count_by p xs
   count_cons x xs = sum_by-cons (λ y. if p y then 1 else 0) x xs
 
   -- an element that passes stands in the filter after those that pass before it

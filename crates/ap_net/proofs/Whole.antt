@@ -87,7 +87,7 @@ joins-driven P n (d ∷ drives) [] h = tt
 joins-driven P n (true ∷ drives) (w ∷ nets) h = (h.0, joins-driven P (n + 1) drives nets h.1)
 joins-driven P n (false ∷ drives) (w ∷ nets) h = joins-driven P (n + 1) drives nets h.1
 
-parts-driven : (P : ℕ → Type 0) (modules : List ModuleText) (base : ℕ) (instances : List Instance) → Each (λ (j : Join). P j.to.number) (part_joins modules base instances) → Each P (driven_by instances)
+pub parts-driven : (P : ℕ → Type 0) (modules : List ModuleText) (base : ℕ) (instances : List Instance) → Each (λ (j : Join). P j.to.number) (part_joins modules base instances) → Each P (driven_by instances)
 parts-driven P modules base [] h = tt
 parts-driven P modules base (i ∷ instances) h =
     All-join P (driven_among i.drives i.nets) (driven_by instances)
@@ -264,8 +264,8 @@ module _ (modules : List ModuleText) (top : ModuleText) (each : Each IsModule mo
       All-join P (top.assigns ++ part_assigns modules count top.instances) (map join_assign (part_joins modules count top.instances))
       (All-join P top.assigns (part_assigns modules count top.instances) own
       (part_assigns-all P modules count top.instances (λ k i at.
-          let there = All-at (IsInstanceIn modules) top.instances k i within at in
-          subst (λ (o : Option ModuleText). Each (λ a. P (assign_placed (λ n. base_of modules top k + n) a)) (assigns_in o)) (sym there.found) (part k i there.whole at there.found))))
+      let there = All-at (IsInstanceIn modules) top.instances k i within at in
+      subst (λ (o : Option ModuleText). Each (λ a. P (assign_placed (λ n. base_of modules top k + n) a)) (assigns_in o)) (sym there.found) (part k i there.whole at there.found))))
       (All-map P join_assign (part_joins modules count top.instances) (part_joins-all (λ j. P (join_assign j)) modules count top.instances
       (λ k i at. joins_from-all (λ j. P (join_assign j)) (base_of modules top k) i.drives i.nets (λ p w d there flag. joined k i (All-at (IsInstanceIn modules) top.instances k i within at) at p w d there flag))))
 
@@ -382,15 +382,15 @@ module _ (modules : List ModuleText) (top : ModuleText) (each : Each IsModule mo
       (parts-split (λ m. m ≢ x.to.number) modules count top.instances (All-from (λ n. x.to.number ≢ n) (λ n. n ≢ x.to.number) (λ n ne e. ne (sym e)) (driven_by top.instances) apart) (λ m low e. omega arith)))
       top.assigns kept.wired.results (Each-swap (λ (x : Assign) n. x.to.number ≢ n) top.assigns (driven_by top.instances) kept.connected.undriven))
       (part_assigns-all (λ (x : Assign). Each (λ (y : Assign). y.to.number ≢ x.to.number) joins) modules count top.instances (λ k i at.
-          let there = All-at (IsInstanceIn modules) top.instances k i within at in
-          let kept' = kept_in modules i each there in
-          subst (λ (o : Option ModuleText). Each (λ (a : Assign). Each (λ (y : Assign). y.to.number ≢ base_of modules top k + a.to.number) joins) (assigns_in o)) (sym there.found)
-          (All-both (λ (a : Assign). IsNet (nets_of there.whole) a.to) (λ (a : Assign). IsFree (nets_of there.whole) a.to.number) (λ (a : Assign). Each (λ (y : Assign). y.to.number ≢ base_of modules top k + a.to.number) joins)
-          (λ a net f. All-map (λ (y : Assign). y.to.number ≢ base_of modules top k + a.to.number) join_assign (part_joins modules count top.instances)
-          (part_joins-all (λ (y : Join). y.to.number ≢ base_of modules top k + a.to.number) modules count top.instances
-          (λ j x here. joins_from-all (λ (y : Join). y.to.number ≢ base_of modules top k + a.to.number) (base_of modules top j) x.drives x.nets
-          (λ p w d net_here flag. apart k j i there.whole at there.found a net f x (All-at (IsInstanceIn modules) top.instances j x within here) here p w d net_here flag))))
-          (there.whole).assigns kept'.wired.results kept'.wired.free))))
+      let there = All-at (IsInstanceIn modules) top.instances k i within at in
+      let kept' = kept_in modules i each there in
+      subst (λ (o : Option ModuleText). Each (λ (a : Assign). Each (λ (y : Assign). y.to.number ≢ base_of modules top k + a.to.number) joins) (assigns_in o)) (sym there.found)
+      (All-both (λ (a : Assign). IsNet (nets_of there.whole) a.to) (λ (a : Assign). IsFree (nets_of there.whole) a.to.number) (λ (a : Assign). Each (λ (y : Assign). y.to.number ≢ base_of modules top k + a.to.number) joins)
+      (λ a net f. All-map (λ (y : Assign). y.to.number ≢ base_of modules top k + a.to.number) join_assign (part_joins modules count top.instances)
+      (part_joins-all (λ (y : Join). y.to.number ≢ base_of modules top k + a.to.number) modules count top.instances
+      (λ j x here. joins_from-all (λ (y : Join). y.to.number ≢ base_of modules top k + a.to.number) (base_of modules top j) x.drives x.nets
+      (λ p w d net_here flag. apart k j i there.whole at there.found a net f x (All-at (IsInstanceIn modules) top.instances j x within here) here p w d net_here flag))))
+      (there.whole).assigns kept'.wired.results kept'.wired.free))))
     where
       apart : (k j : ℕ) (i : Instance) (m : ModuleText) → slice_get top.instances k ≡ Some i → module_named modules i.module ≡ Some m → (a : Assign) → IsNet (nets_of m) a.to → IsFree (nets_of m) a.to.number
           → (x : Instance) (h : IsInstanceIn modules x) → slice_get top.instances j ≡ Some x → (p : ℕ) (w : Wire) (d : Bool) → slice_get x.nets p ≡ Some w → slice_get x.drives p ≡ Some d
@@ -412,11 +412,11 @@ module _ (modules : List ModuleText) (top : ModuleText) (each : Each IsModule mo
         declared = All-join (λ (x : Next). x.register.number < length (opened_over modules top).nets) top.nexts (part_nexts modules count top.instances)
             (All-from (NextFits (nets_of top)) (λ (x : Next). x.register.number < length (opened_over modules top).nets) (λ x fits. let lt = number-IsNet nets x.register (own-IsNet x.register fits.register) in omega arith) top.nexts kept.wired.registers)
             (part_nexts-all (λ (x : Next). x.register.number < length (opened_over modules top).nets) modules count top.instances (λ k i at.
-                let there = All-at (IsInstanceIn modules) top.instances k i within at in
-                let kept' = kept_in modules i each there in
-                subst (λ (o : Option ModuleText). Each (λ (x : Next). base_of modules top k + x.register.number < length (opened_over modules top).nets) (nexts_in o)) (sym there.found)
-                (All-from (NextFits (nets_of there.whole)) (λ (x : Next). base_of modules top k + x.register.number < length (opened_over modules top).nets)
-                (λ x fits. let lt = number-IsNet nets (placed (λ n. base_of modules top k + n) x.register) (part-IsNet k i there.whole at there.found x.register fits.register) in omega arith) (there.whole).nexts kept'.wired.registers)));
+            let there = All-at (IsInstanceIn modules) top.instances k i within at in
+            let kept' = kept_in modules i each there in
+            subst (λ (o : Option ModuleText). Each (λ (x : Next). base_of modules top k + x.register.number < length (opened_over modules top).nets) (nexts_in o)) (sym there.found)
+            (All-from (NextFits (nets_of there.whole)) (λ (x : Next). base_of modules top k + x.register.number < length (opened_over modules top).nets)
+            (λ x fits. let lt = number-IsNet nets (placed (λ n. base_of modules top k + n) x.register) (part-IsNet k i there.whole at there.found x.register fits.register) in omega arith) (there.whole).nexts kept'.wired.registers)));
         once = ClockedOnce-join top.nexts (part_nexts modules count top.instances) kept.wired.clocked_once (part_nexts_once modules count top.instances each within)
             (All-from (NextFits (nets_of top)) (λ (x : Next). Each (λ (y : Next). y.register.number ≢ x.register.number) (part_nexts modules count top.instances))
             (λ x fits. let lt = number-IsNet (nets_of top) x.register fits.register in

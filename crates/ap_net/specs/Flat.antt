@@ -15,7 +15,7 @@ use Rattle.ap_net.specs.declared.net.Instance.{Instance}
 use Rattle.ap_net.specs.declared.net.Join.{Join}
 use Rattle.ap_net.specs.Cells.{IsNet, CellFits}
 use Rattle.ap_net.specs.Wiring.{Settles, Undriven, DrivenOnce, ClockedOnce, IsFree, IsSource}
-use Rattle.ap_net.specs.Modules.{ModuleText, nets_of, module_named, last_module, earlier, assign_placed, next_placed, reset_value}
+use Rattle.ap_net.specs.Modules.{ModuleText, IsNetlist, nets_of, module_named, last_module, earlier, assign_placed, next_placed, reset_value}
 
 -- The parts' names, the nets of all parts in one list and numbered through it, what drives them, and the connections.
 pub record Flat : Type 0 where
@@ -209,3 +209,13 @@ NamesAreFound = (nets : List FlatNet) → NamesDiffer nets → (v : List ℕ) �
 abbrev pub RegistersAreFound : Type 0
 RegistersAreFound = (f : Flat) → NamesDiffer f.nets → AreClocked f → (registers : List ℕ) → length registers ≡ length f.nexts
     → (k : ℕ) (x : Next) (net : FlatNet) → slice_get f.nexts k ≡ Some x → slice_get f.nets x.register.number ≡ Some net → register_in net.part f registers net.name ≡ slice_index registers k
+
+-- what every opened netlist keeps
+pub record IsOpenNetlist (f : Flat) : Type 0 where
+  pub flat : IsFlat f
+  pub driven : IsFlatDriven f
+  pub names : NamesDiffer f.nets
+  pub clocked : AreClocked f
+
+abbrev pub NetlistsOpen : Type 0
+NetlistsOpen = (modules : List ModuleText) → IsNetlist modules → IsOpenNetlist (opened modules)

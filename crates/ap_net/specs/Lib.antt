@@ -5,6 +5,7 @@ pub mod Modules
 pub mod Opened
 pub mod Draft
 pub mod Places
+pub mod Placing
 pub mod Flat
 pub mod Finished
 pub mod Outside

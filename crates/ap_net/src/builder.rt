@@ -1,11 +1,14 @@
-ghost use Rattle.std.specs.Prelude.{◌≡◌, ℕ, ◌+◌, ◌<◌, ◌≤◌, ◌∷◌, ◌++◌, [], List, length, map, codes, OnOk, OnErr, IfOk, ◌^◌, slice_get, Some, if◌then◌else◌};
+ghost use Rattle.std.specs.Prelude.{◌≡◌, ◌≢◌, ℕ, ◌+◌, ◌<◌, ◌≤◌, ◌∷◌, ◌++◌, [], List, length, map, codes, OnOk, OnErr, IfOk, ◌^◌, slice_get, Some, if◌then◌else◌};
 ghost use Rattle.std.specs.List.{AllByRecursion as Each};
 ghost use Rattle.ap_net.specs.Names.{IsNetName, IsNew, IsNotNumbered, numbered};
 ghost use Rattle.ap_net.specs.Cells.{IsNet, CellFits, cell_value};
 ghost use Rattle.ap_net.specs.Wiring.{IsFree, reset_of, NextFits, IsDriven, Undriven, Unjoined, Unclocked, AreApart, driven_among};
-ghost use Rattle.ap_net.specs.Modules.{ports_among, outputs, instance_of};
+ghost use Rattle.ap_net.specs.declared.net.Port.{Port};
+ghost use Rattle.ap_net.specs.Modules.{ModuleText, ports_among, outputs, instance_of, module_named};
+ghost use Rattle.ap_net.specs.Opened.{SolvesPart};
+ghost use Rattle.ap_net.specs.Placing.{Places, output_widths, input_widths, wires_from, fresh_nets, merged, output_wires, placed_instance, with_placed};
 ghost use Rattle.ap_net.specs.Finished.{IsFinished};
-ghost use Rattle.ap_net.specs.Draft.{Draft, Adds, Closes, Makes, CanFresh, SettlesDraft, names_of, is_plain, wire_count};
+ghost use Rattle.ap_net.specs.Draft.{Draft, Adds, Closes, Makes, CanFresh, SettlesDraft, SettlesOpen, names_of, is_plain, wire_count};
 
 use crate::NoMemory;
 use crate::cell::{Cell, Wire};
@@ -81,6 +84,32 @@ fn outputs_of(alloc: Global, ports: &[Port]) -> Result<Items<bool>, NoMemory>
     Ok(list)
 }
 
+/// One net for each port: the next output where the port is one, else the next input.
+fn connected(
+    alloc: Global,
+    ports: &[Port],
+    inputs: &[Wire],
+    outputs: &[Wire],
+) -> Result<Vec<Wire>, NoMemory>
+    requires inputs { length inputs.now ≡ length (input_widths ports.now) }
+    requires outputs { length outputs.now ≡ length (output_widths ports.now) }
+    ensures { IfOk result (λ nets. nets.items ≡ merged (map (λ p. p.output) ports.now) inputs.now outputs.now) }
+{
+    let mut nets = Vec::new(alloc);
+    let mut used = 0;
+    let mut driven = 0;
+    for port in ports {
+        if port.output {
+            nets.push(outputs[driven])?;
+            driven += 1;
+            continue;
+        }
+        nets.push(inputs[used])?;
+        used += 1;
+    }
+    Ok(nets)
+}
+
 /// How many wires a net of this role is.
 fn wires_in(role: Role) -> usize
     ensures { result ≡ if is_plain role then 1 else 0 }
@@ -102,6 +131,7 @@ impl Builder {
         ensures ok { OnOk result (self.new ≡ record self.old { nets = self.old.nets ++ record { name = name; width = width; role = role } ∷ [] }) }
         ensures wire { IfOk result (λ w. w ≡ record { number = length self.old.nets; width = width }) }
         ensures adds { OnOk result (Adds self.old self.new) }
+        ensures names { OnOk result ((other : List ℕ) → name ≢ other → IsNew other (names_of self.old) → IsNew other (names_of self.new)) }
         ensures named { OnOk result (IsNotNumbered name → CanFresh self.old → CanFresh self.new) }
         ensures numbered { OnOk result (name ≡ numbered (wire_count self.old.nets) → role ≡ Role.Plain → CanFresh self.old → CanFresh self.new) }
         ensures err { OnErr result (self.new ≡ self.old) }
@@ -139,6 +169,7 @@ impl Builder {
         ensures wire { IfOk result (λ w. w ≡ record { number = length self.old.nets; width = width }) }
         ensures adds { OnOk result (Adds self.old self.new) }
         ensures fresh { OnOk result (CanFresh self.old → CanFresh self.new) }
+        ensures names { OnOk result ((other : List ℕ) → IsNotNumbered other → IsNew other (names_of self.old) → IsNew other (names_of self.new)) }
         ensures err { OnErr result (self.new ≡ self.old) }
     {
         let name = NetName::numbered(self.alloc, self.wires)?;
@@ -257,6 +288,72 @@ impl Builder {
             drives,
         })?;
         Ok(())
+    }
+
+    /// A fresh wire, where they can be had any number of times. After an error nothing changed.
+    fn next_fresh(&mut self, width: u32) -> Result<Wire, NoMemory>
+        requires fresh { CanFresh self.old }
+        requires low { 1 ≤ width }
+        requires high { width ≤ 64 }
+        ensures ok { OnOk result (self.new ≡ record self.old { nets = self.old.nets ++ record { name = numbered (wire_count self.old.nets); width = width; role = Role.Plain } ∷ [] }) }
+        ensures wire { IfOk result (λ w. w ≡ record { number = length self.old.nets; width = width }) }
+        ensures fresh { OnOk result (CanFresh self.new) }
+        ensures names { OnOk result ((other : List ℕ) → IsNotNumbered other → IsNew other (names_of self.old) → IsNew other (names_of self.new)) }
+    {
+        let _ = &self.nets;
+        let wire = self.fresh(width)?;
+        Ok(wire)
+    }
+
+    /// A fresh wire for each of these ports that is an output. After an error the builder is good for nothing but to be dropped.
+    fn fresh_outputs(&mut self, ports: &[Port]) -> Result<Items<Wire>, NoMemory>
+        requires fresh { CanFresh self.old }
+        requires widths { Each (λ (p : Port). (1 ≤ p.width) × (p.width ≤ 64)) ports.now }
+        ensures ok { OnOk result (self.new ≡ record self.old { nets = self.old.nets ++ fresh_nets (wire_count self.old.nets) (output_widths ports.now) }) }
+        ensures outputs { IfOk result (λ outs. outs ≡ wires_from (length self.old.nets) (output_widths ports.now)) }
+        ensures fresh { OnOk result (CanFresh self.new) }
+        ensures names { OnOk result ((other : List ℕ) → IsNotNumbered other → IsNew other (names_of self.old) → IsNew other (names_of self.new)) }
+    {
+        let mut outputs = Items::new(self.alloc);
+        for port in ports {
+            if !port.output {
+                continue;
+            }
+            outputs.push(self.next_fresh(port.width)?)?;
+        }
+        Ok(outputs)
+    }
+
+    /// Places an instance of a finished module over ready nets: these are connected to the module's inputs, in order, and a
+    /// fresh wire is made for each of its outputs. Answers these wires, in order. In a netlist with this module, the
+    /// instance's part of each solution solves the module, and each port equals the net that it is connected to. After an
+    /// error the builder is good for nothing but to be dropped.
+    pub fn place(
+        &mut self,
+        name: &[u8],
+        whole: &Module,
+        inputs: &[Wire],
+    ) -> Result<Items<Wire>, NoMemory>
+        requires top { self.old.name ≡ codes "top" }
+        requires fresh { CanFresh self.old }
+        requires is_name { IsNetName name.now }
+        requires name { IsNew name.now (names_of self.old) }
+        requires other { IsNotNumbered name.now }
+        requires widths { map (λ w. w.width) inputs.now ≡ input_widths whole.now.ports }
+        requires nets { Each (IsNet self.old.nets) inputs.now }
+        ensures ok { OnOk result (self.new ≡ with_placed self.old name.now whole.now inputs.now) }
+        ensures outputs { IfOk result (λ outs. outs ≡ output_wires (length self.old.nets) whole.now) }
+        ensures nets { IfOk result (λ outs. Each (IsNet self.new.nets) outs) }
+        ensures value { OnOk result ((modules : List ModuleText) (read : ℕ → ℕ) (parts : ℕ → ℕ → ℕ) → SettlesOpen modules self.new read parts → SettlesOpen modules self.old read parts
+            × (module_named modules whole.now.name ≡ Some whole.now → SolvesPart whole.now (placed_instance (length self.old.nets) name.now whole.now inputs.now) read (parts (length self.old.instances)))) }
+        ensures places { OnOk result (Places (name.now ∷ []) self.old self.new) }
+    {
+        whole.rules();
+        let alloc = self.alloc;
+        let outputs = self.fresh_outputs(whole.ports())?;
+        let nets = connected(alloc, whole.ports(), inputs, outputs.as_slice())?;
+        self.instance(name, whole, &nets)?;
+        Ok(outputs)
     }
 
     /// A fresh wire that this cell drives. After an error the builder is good for nothing but to be dropped.
