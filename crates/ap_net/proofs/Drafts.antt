@@ -16,7 +16,7 @@ use Rattle.ap_net.specs.Names.{IsNew}
 use Rattle.ap_net.specs.Wiring.{IsSource, reset_of, names_taken, Holds, Ranked, IsWired, IsConnected}
 use Rattle.ap_net.specs.declared.net.Instance.{Instance}
 use Rattle.ap_net.specs.Opened.{Follows, IsOpenOrder}
-use Rattle.ap_net.specs.Draft.{Draft, Begins, Extends, RanksOn, OpensOn, Adds, Closes, Makes, SettlesDraft}
+use Rattle.ap_net.specs.Draft.{Draft, Begins, Extends, RanksOn, OpensOn, Opens, GrowsUp, Adds, Closes, Makes, SettlesDraft}
 use Rattle.ap_net.proofs.Lists.{All-join, All-front, All-back, All-both, All-from, All-at, get_left}
 use Rattle.ap_net.proofs.Connected.{names_taken-declare}
 use Rattle.ap_net.proofs.Wired.{width_stays, number-IsNet, operands-CellFits, declared, IsNet-more, CellFits-more}
@@ -40,15 +40,17 @@ longer : (a b : Draft) → Extends a b → length a.nets ≤ length b.nets
 longer a b e = let l : length b.nets ≡ length (a.nets ++ e.nets.0) = ap length e.nets.1 in omega (arith, length-append a.nets e.nets.0)
 
 pub Adds-refl : (a : Draft) → Adds a a
+unfolding Opens GrowsUp
 Adds-refl a = record {
   extends = Extends-refl a;
   nexts = refl;
   order = λ rank h. record { after = rank; agrees = λ n lt. refl; ranked = h };
   opens = λ modules ordered within rank parts h. record { after = rank; parts_after = parts; agrees = λ n lt. refl; order = h };
-  grows = record { more = []; assigns = sym (append-nil a.assigns); upward = tt };
+  grows = ([], sym (append-nil a.assigns), tt);
 }
 
 pub Adds-trans : (a b c : Draft) → Adds a b → Adds b c → Adds a c
+unfolding Opens GrowsUp
 Adds-trans a b c p q = record {
   extends = Extends-trans a b c p.extends q.extends;
   nexts = q.nexts ∙ p.nexts;
@@ -65,13 +67,11 @@ Adds-trans a b c p q = record {
       record { after = two.after; parts_after = two.parts_after; agrees = λ n lt. two.agrees n (omega arith) ∙ one.agrees n lt; order = two.order };
   grows =
       let le = longer a b p.extends in
-      record {
-        more = p.grows.more ++ q.grows.more;
-        assigns = q.grows.assigns ∙ ap (λ l. l ++ q.grows.more) p.grows.assigns ∙ append_assoc a.assigns p.grows.more q.grows.more;
-        upward = All-join (λ (x : Assign). (length a.nets ≤ x.to.number) × Each (λ (o : Wire). o.number < x.to.number) (operands x.cell)) p.grows.more q.grows.more p.grows.upward
-            (All-from (λ (x : Assign). (length b.nets ≤ x.to.number) × Each (λ (o : Wire). o.number < x.to.number) (operands x.cell)) (λ (x : Assign). (length a.nets ≤ x.to.number) × Each (λ (o : Wire). o.number < x.to.number) (operands x.cell))
-            (λ x h. ((let low : length b.nets ≤ x.to.number = h.0 in omega arith), h.1)) q.grows.more q.grows.upward);
-      };
+      let P : ℕ → Assign → Type 0 = λ n x. (n ≤ x.to.number) × Each (λ (o : Wire). o.number < x.to.number) (operands x.cell) in (
+        p.grows.0 ++ q.grows.0,
+        q.grows.1 ∙ ap (λ l. l ++ q.grows.0) p.grows.1 ∙ append_assoc a.assigns p.grows.0 q.grows.0,
+        All-join (P (length a.nets)) p.grows.0 q.grows.0 p.grows.2 (All-from (P (length b.nets)) (P (length a.nets)) (λ x h. ((let low : length b.nets ≤ x.to.number = h.0 in omega arith), h.1)) q.grows.0 q.grows.2),
+      );
 }
 
 pub IsNet-Adds : (a b : Draft) (w : Wire) → Adds a b → IsNet a.nets w → IsNet b.nets w
@@ -93,12 +93,13 @@ Settles-before a b read e s = record {
 
 -- to declare a net adds a piece of circuit
 pub Adds-declare : (a : Draft) (net : ModuleNet) → Adds a (record a { nets = a.nets ++ net ∷ [] })
+unfolding Opens GrowsUp
 Adds-declare a net = record {
   extends = record { name = refl; nets = (net ∷ [], refl); assigns = ([], sym (append-nil a.assigns)); nexts = ([], sym (append-nil a.nexts)); instances = ([], sym (append-nil a.instances)) };
   nexts = refl;
   order = λ rank h. record { after = rank; agrees = λ n lt. refl; ranked = h };
   opens = λ modules ordered within rank parts h. record { after = rank; parts_after = parts; agrees = λ n lt. refl; order = h };
-  grows = record { more = []; assigns = sym (append-nil a.assigns); upward = tt };
+  grows = ([], sym (append-nil a.assigns), tt);
 }
 
 -- a new net that is driven by a cell over nets that were there
@@ -167,6 +168,7 @@ made-extends a net c = record { name = refl; nets = (net ∷ [], refl); assigns 
 
 -- to make a net with a cell over declared nets adds a piece of circuit
 pub Adds-made : (a : Draft) (net : ModuleNet) (c : Cell) → IsWired a.nets a.assigns a.nexts → IsConnected a.nets a.assigns a.instances → CellFits a.nets net.width c → Adds a (made a net c)
+unfolding Opens GrowsUp
 Adds-made a net c d connected fits = record {
   extends = made-extends a net c;
   nexts = refl;
@@ -174,11 +176,11 @@ Adds-made a net c d connected fits = record {
   opens = λ modules ordered within rank parts h.
       let on : RanksOn a (made a net c) rank = made-order a net c d fits rank h.ranked in
       record { after = on.after; parts_after = parts; agrees = on.agrees; order = IsOpenOrder-agree a.nets modules a.assigns (made a net c).assigns a.instances rank on.after parts connected.declared on.agrees on.ranked h };
-  grows = record {
-    more = record { to = record { number = length a.nets; width = net.width }; cell = c } ∷ [];
-    assigns = refl;
-    upward = ((omega arith, All-from (IsNet a.nets) (λ (o : Wire). o.number < length a.nets) (number-IsNet a.nets) (operands c) (operands-CellFits a.nets net.width c fits)), tt);
-  };
+  grows = (
+    record { to = record { number = length a.nets; width = net.width }; cell = c } ∷ [],
+    refl,
+    ((omega arith, All-from (IsNet a.nets) (λ (o : Wire). o.number < length a.nets) (number-IsNet a.nets) (operands c) (operands-CellFits a.nets net.width c fits)), tt),
+  );
 }
 
 -- what settles a draft with a made net settles the draft before, and gives the net the cell's value
@@ -231,11 +233,12 @@ pub Closes-trans : (a b c : Draft) → Closes a b → Closes b c → Closes a c
 Closes-trans a b c p q = record { driven = λ h. q.driven (p.driven h); registers = λ k h. q.registers k (p.registers k h) }
 
 pub Makes-refl : (a : Draft) → Makes a a
-Makes-refl a = record { adds = Adds-refl a; closes = Closes-refl a; fresh = λ h. h; names = λ name other h. h; ports = refl }
+Makes-refl a = record { adds = Adds-refl a; instances = refl; closes = Closes-refl a; fresh = λ h. h; names = λ name other h. h; ports = refl }
 
 pub Makes-trans : (a b c : Draft) → Makes a b → Makes b c → Makes a c
 Makes-trans a b c p q = record {
   adds = Adds-trans a b c p.adds q.adds;
+  instances = q.instances ∙ p.instances;
   closes = Closes-trans a b c p.closes q.closes;
   fresh = λ h. q.fresh (p.fresh h);
   names = λ name other h. q.names name other (p.names name other h);

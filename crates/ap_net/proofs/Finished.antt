@@ -109,6 +109,7 @@ finished-IsFinished d count places each port h driven =
       place = slice_index places;
       back = slice_index (origins d.nets);
       nets = r.nets;
+      numbers = each;
       returns = r.returns;
       within = r.within;
       covers = r.covers;

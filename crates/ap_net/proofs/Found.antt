@@ -13,7 +13,7 @@ use Rattle.ap_net.proofs.Lists.{All-at, some_same}
 use Rattle.ap_net.proofs.Renumbered.{some_within}
 
 -- the test tells the net of this part and name
-named_is : (part : ℕ) (name : List ℕ) (net : FlatNet) → net.part ≡ part → net.name ≡ name → is_named part name net ≡ true
+pub named_is : (part : ℕ) (name : List ℕ) (net : FlatNet) → net.part ≡ part → net.name ≡ name → is_named part name net ≡ true
 named_is part name net p n = let yes : (net.part == part) ≡ true = eq-eqb net.part part p in let yes' : bytes_eq net.name name ≡ true = (bytes_eq-Decides net.name name).1 n in rw (yes, yes') refl
 
 is_named_tells : (part : ℕ) (name : List ℕ) (net : FlatNet) → is_named part name net ≡ true → (net.part ≡ part) × (net.name ≡ name)

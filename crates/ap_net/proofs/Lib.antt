@@ -19,5 +19,6 @@ pub mod Solution
 pub mod Fits
 pub mod Unique
 pub mod Found
+pub mod Beside
 pub mod Laws
 pub mod Tested

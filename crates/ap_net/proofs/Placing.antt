@@ -20,7 +20,7 @@ use Rattle.ap_net.specs.Cells.{IsNet, operands}
 use Rattle.ap_net.specs.Wiring.{IsSource, IsFree, IsWired, IsConnected, IsOrdered, Undriven, Unjoined, AreApart, Ranked, driven_among, driven_by, names_taken, taken_names, reset_of}
 use Rattle.ap_net.specs.Modules.{ModuleText, IsInstanceIn, nets_of, outputs, module_named, Connects, port_by, ports_among, instance_of}
 use Rattle.ap_net.specs.Opened.{SolvesPart, SolveParts, OrdersPart, Follows, IsOpenOrder, AreOrdered}
-use Rattle.ap_net.specs.Draft.{Draft, Extends, RanksOn, OpensOn, Adds, Closes, Makes, SettlesDraft, SettlesOpen, names_of, wire_count, is_wire}
+use Rattle.ap_net.specs.Draft.{Draft, Extends, OpensOn, Opens, GrowsUp, Adds, Closes, Makes, SettlesDraft, SettlesOpen, names_of, wire_count, is_wire}
 use Rattle.ap_net.specs.Placing.{Places, output_widths, input_widths, wires_from, fresh_nets, merged, output_wires, placed_instance, with_placed}
 use Rattle.ap_net.proofs.Lists.{All-join, All-front, All-back, All-from, All-both, All-at, get_left, get_end, get_either, some_same}
 use Rattle.ap_net.proofs.Wired.{IsNet-more, IsNet-end, number-IsNet, declared, wire_count-push}
@@ -287,6 +287,10 @@ is_false : (b : Bool) (P : Type 0) → Decides b P → (P → ⊥) → b ≡ fal
 is_false true P d p = absurd (p (d.0 refl))
 is_false false P d p = refl
 
+-- the connected nets are as wide as the ports
+pub placed-widths : (n : ℕ) (m : ModuleText) (inputs : List Wire) → map (λ (w : Wire). w.width) inputs ≡ input_widths m.ports → map (λ (w : Wire). w.width) (merged (outputs m) inputs (output_wires n m)) ≡ map (λ (p : Port). p.width) m.ports
+placed-widths n m inputs wide = merged-widths m.ports inputs (output_wires n m) wide (width-wires_from n (output_widths m.ports))
+
 module _ (d : Draft) (name : List ℕ) (m : ModuleText) (inputs : List Wire) (wired : IsWired d.nets d.assigns d.nexts) (connected : IsConnected d.nets d.assigns d.instances)
     (wide : map (λ (w : Wire). w.width) inputs ≡ input_widths m.ports) (nets : Each (IsNet d.nets) inputs) where
   abbrev count : ℕ
@@ -312,9 +316,6 @@ module _ (d : Draft) (name : List ℕ) (m : ModuleText) (inputs : List Wire) (wi
 
   numbers : driven_among (outputs m) whole ≡ map (λ (w : Wire). w.number) outs
   numbers = driven-merged m.ports inputs outs wide (width-wires_from count widths)
-
-  pub placed-widths : map (λ (w : Wire). w.width) whole ≡ map (λ (p : Port). p.width) m.ports
-  placed-widths = merged-widths m.ports inputs outs wide (width-wires_from count widths)
 
   pub placed-nets : Each (IsNet (d.nets ++ more)) whole
   placed-nets = merged-all (IsNet (d.nets ++ more)) (outputs m) inputs outs (All-from (IsNet d.nets) (IsNet (d.nets ++ more)) (IsNet-more d.nets more) inputs nets) (wires_from-IsNet d.nets (wire_count d.nets) widths)
@@ -419,12 +420,13 @@ module _ (d : Draft) (name : List ℕ) (m : ModuleText) (inputs : List Wire) (wi
     }
 
   pub placed-Adds : Adds d new
+  unfolding Opens GrowsUp
   placed-Adds = record {
     extends = extends;
     nexts = refl;
     order = λ rank h. record { after = rank; agrees = λ n lt. refl; ranked = h };
     opens = placed-opens;
-    grows = record { more = []; assigns = sym (append-nil d.assigns); upward = tt };
+    grows = ([], sym (append-nil d.assigns), tt);
   }
 
   -- an output stands where its number says
@@ -481,9 +483,10 @@ names_taken-instance instances nets i other ne h =
 pub Places-placed : (d : Draft) (nets : List ModuleNet) (i : Instance) → IsNotNumbered i.name → Adds d (record d { nets = nets; instances = d.instances ++ i ∷ [] }) → Closes d (record d { nets = nets; instances = d.instances ++ i ∷ [] })
     → ports_among nets ≡ ports_among d.nets → HasFresh (names_taken d.instances nets) (wire_count nets)
     → ((other : List ℕ) → IsNotNumbered other → IsNew other (names_of d) → IsNew other (names_taken d.instances nets))
-    → Places (i.name ∷ []) d (record d { nets = nets; instances = d.instances ++ i ∷ [] })
+    → Places (i ∷ []) d (record d { nets = nets; instances = d.instances ++ i ∷ [] })
 Places-placed d nets i other adds closes ports fresh names = record {
   adds = adds;
+  instances = refl;
   closes = closes;
   fresh = λ _. record { free = λ k low small. names_taken-instance d.instances nets i (numbered k) (other k small) (fresh.free k low small) };
   names = λ name not_numbered not_added new. names_taken-instance d.instances nets i name not_added.0 (names name not_numbered new);
@@ -491,14 +494,17 @@ Places-placed d nets i other adds closes ports fresh names = record {
 }
 
 pub Places-Makes : (a b : Draft) → Makes a b → Places [] a b
-Places-Makes a b m = record { adds = m.adds; closes = m.closes; fresh = m.fresh; names = λ name other added new. m.names name other new; ports = m.ports }
+Places-Makes a b m = record { adds = m.adds; instances = m.instances ∙ sym (append-nil a.instances); closes = m.closes; fresh = m.fresh; names = λ name other added new. m.names name other new; ports = m.ports }
 
-pub Places-trans : (xs ys : List (List ℕ)) (a b c : Draft) → Places xs a b → Places ys b c → Places (xs ++ ys) a c
+pub Places-trans : (xs ys : List Instance) (a b c : Draft) → Places xs a b → Places ys b c → Places (xs ++ ys) a c
 Places-trans xs ys a b c p q = record {
   adds = Adds-trans a b c p.adds q.adds;
+  instances = q.instances ∙ ap (λ l. l ++ ys) p.instances ∙ append_assoc a.instances xs ys;
   closes = Closes-trans a b c p.closes q.closes;
   fresh = λ h. q.fresh (p.fresh h);
-  names = λ name other added new. q.names name other (All-back (λ x. x ≢ name) xs ys added) (p.names name other (All-front (λ x. x ≢ name) xs ys added) new);
+  names = λ name other added new.
+      let names : Each (λ x. x ≢ name) (map (λ (i : Instance). i.name) xs ++ map (λ (i : Instance). i.name) ys) = subst (Each (λ x. x ≢ name)) (map-append (λ (i : Instance). i.name) xs ys) added in
+      q.names name other (All-back (λ x. x ≢ name) (map (λ (i : Instance). i.name) xs) (map (λ (i : Instance). i.name) ys) names) (p.names name other (All-front (λ x. x ≢ name) (map (λ (i : Instance). i.name) xs) (map (λ (i : Instance). i.name) ys) names) new);
   ports = q.ports ∙ p.ports;
 }
 

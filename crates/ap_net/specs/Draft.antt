@@ -73,11 +73,16 @@ pub record OpensOn (modules : List ModuleText) (old new : Draft) (rank : ℕ →
   pub agrees : (n : ℕ) → n < length old.nets → after n ≡ rank n
   pub order : IsOpenOrder modules new.assigns new.instances after parts_after
 
+-- Every rank of the old assigns and of the parts of instances goes on, where the modules of all instances are among these and no net
+-- of theirs depends on itself.
+unfoldable pub Opens : Draft → Draft → Type 0
+Opens old new = (modules : List ModuleText) → AreOrdered modules → Each (IsInstanceIn modules) new.instances
+    → (rank : ℕ → ℕ) (parts : ℕ → ℕ → ℕ) → IsOpenOrder modules old.assigns old.instances rank parts → OpensOn modules old new rank parts
+
 -- the assigns that came drive new nets, and read what was declared before
-pub record GrowsUp (old new : Draft) : Type 0 where
-  pub more : List Assign
-  pub assigns : new.assigns ≡ old.assigns ++ more
-  pub upward : Each (λ (a : Assign). (length old.nets ≤ a.to.number) × Each (λ (o : Wire). o.number < a.to.number) (operands a.cell)) more
+unfoldable pub GrowsUp : Draft → Draft → Type 0
+GrowsUp old new = (more : List Assign) × (new.assigns ≡ old.assigns ++ more)
+    × Each (λ (a : Assign). (length old.nets ≤ a.to.number) × Each (λ (o : Wire). o.number < a.to.number) (operands a.cell)) more
 
 -- A piece of circuit was added: all that was there stays, no register got a driver, and every rank of the old assigns goes on,
 -- that of the nets of instances included.
@@ -85,8 +90,7 @@ pub record Adds (old new : Draft) : Type 0 where
   pub extends : Extends old new
   pub nexts : new.nexts ≡ old.nexts
   pub order : (rank : ℕ → ℕ) → Ranked rank old.assigns → RanksOn old new rank
-  pub opens : (modules : List ModuleText) → AreOrdered modules → Each (IsInstanceIn modules) new.instances
-      → (rank : ℕ → ℕ) (parts : ℕ → ℕ → ℕ) → IsOpenOrder modules old.assigns old.instances rank parts → OpensOn modules old new rank parts
+  pub opens : Opens old new
   pub grows : GrowsUp old new
 
 -- every wire and output has its driver
@@ -110,6 +114,7 @@ CanFresh d = HasFresh (names_of d) (wire_count d.nets)
 -- is as new as it was, and the ports are as they were.
 pub record Makes (old new : Draft) : Type 0 where
   pub adds : Adds old new
+  pub instances : new.instances ≡ old.instances
   pub closes : Closes old new
   pub fresh : CanFresh old → CanFresh new
   pub names : (name : List ℕ) → IsNotNumbered name → IsNew name (names_of old) → IsNew name (names_of new)

@@ -1,10 +1,12 @@
 -- How a finished module comes from a draft.
-use Rattle.std.specs.Prelude.{◌≡◌, ℕ, ◌+◌, ◌<◌, List, [], ◌∷◌, length, map, slice_get, slice_index}
+use Rattle.std.specs.Prelude.{◌≡◌, ℕ, ◌+◌, ◌<◌, List, [], ◌∷◌, length, map, slice_get, slice_index, Some}
 use Rattle.std.specs.List.{AllByRecursion as Each}
 use Rattle.ap_net.specs.Wiring.{Settles, Ranked}
 use Rattle.ap_net.specs.Opened.{IsOpenOrder}
 use Rattle.ap_net.specs.Draft.{Draft, SettlesDraft, SettlesOpen}
 use Rattle.ap_net.specs.Modules.{ModuleText, IsModule, nets_of, ports_among, wires_among, regs_among, assign_placed, next_placed, instance_placed, IsInstanceIn}
+use Rattle.ap_net.specs.declared.net.ModuleNet.{ModuleNet}
+use Rattle.ap_net.specs.Places.{place_by}
 use Rattle.ap_net.specs.Flat.{opened, opened_over, Solves, base_of, spread, equations}
 
 -- The module is the draft finished: its nets stand by kind and otherwise in the order of their declaration. `place` gives a
@@ -19,6 +21,7 @@ pub record IsFinished (d : Draft) (m : ModuleText) : Type 0 where
   pub place : ℕ → ℕ
   pub back : ℕ → ℕ
   pub nets : (n : ℕ) → n < length d.nets → slice_get (nets_of m) (place n) ≡ slice_get d.nets n
+  pub numbers : (n : ℕ) (net : ModuleNet) → slice_get d.nets n ≡ Some net → place n ≡ place_by net.role d.nets n
   pub returns : (n : ℕ) → n < length d.nets → back (place n) ≡ n
   pub within : (n : ℕ) → n < length (nets_of m) → back n < length d.nets
   pub covers : (n : ℕ) → n < length (nets_of m) → place (back n) ≡ n

@@ -1,5 +1,5 @@
 -- How an instance is placed over ready nets: a fresh wire is made for each output, and the ports are connected in order.
-use Rattle.std.specs.Prelude.{◌≡◌, ◌≢◌, ℕ, ◌+◌, List, [], ◌∷◌, ◌++◌, length, Bool, true, false, if◌then◌else◌}
+use Rattle.std.specs.Prelude.{◌≡◌, ◌≢◌, ℕ, ◌+◌, List, [], ◌∷◌, ◌++◌, length, map, Bool, true, false, if◌then◌else◌}
 use Rattle.ap_net.specs.declared.cell.Wire.{Wire}
 use Rattle.ap_net.specs.declared.net.Role.TheVariants as role
 use Rattle.ap_net.specs.declared.net.ModuleNet.{ModuleNet}
@@ -51,11 +51,12 @@ with_placed d name m inputs = record d {
   instances = d.instances ++ placed_instance (length d.nets) name m inputs ∷ [];
 }
 
--- Fresh wires were made and instances of these names placed over ready nets: what came is driven, further fresh wires can be had,
--- a name that isn't n and a number and none of these is as new as it was, and the ports are as they were.
-pub record Places (added : List (List ℕ)) (old new : Draft) : Type 0 where
+-- Fresh wires were made and these instances placed over ready nets: what came is driven, further fresh wires can be had, a name
+-- that isn't n and a number and none of the instances' is as new as it was, and the ports are as they were.
+pub record Places (placed : List Instance) (old new : Draft) : Type 0 where
   pub adds : Adds old new
+  pub instances : new.instances ≡ old.instances ++ placed
   pub closes : Closes old new
   pub fresh : CanFresh old → CanFresh new
-  pub names : (name : List ℕ) → IsNotNumbered name → IsNew name added → IsNew name (names_of old) → IsNew name (names_of new)
+  pub names : (name : List ℕ) → IsNotNumbered name → IsNew name (map (λ (i : Instance). i.name) placed) → IsNew name (names_of old) → IsNew name (names_of new)
   pub ports : ports_among new.nets ≡ ports_among old.nets

@@ -4,7 +4,7 @@ ghost use Rattle.ap_net.specs.Names.{IsNetName, IsNew, IsNotNumbered, numbered};
 ghost use Rattle.ap_net.specs.Cells.{IsNet, CellFits, cell_value};
 ghost use Rattle.ap_net.specs.Wiring.{IsFree, reset_of, NextFits, IsDriven, Undriven, Unjoined, Unclocked, AreApart, driven_among};
 ghost use Rattle.ap_net.specs.declared.net.Port.{Port};
-ghost use Rattle.ap_net.specs.Modules.{ModuleText, ports_among, outputs, instance_of, module_named};
+ghost use Rattle.ap_net.specs.Modules.{ModuleText, ports_among, outputs, instance_of, module_named, Connects};
 ghost use Rattle.ap_net.specs.Opened.{SolvesPart};
 ghost use Rattle.ap_net.specs.Placing.{Places, output_widths, input_widths, wires_from, fresh_nets, merged, output_wires, placed_instance, with_placed};
 ghost use Rattle.ap_net.specs.Finished.{IsFinished};
@@ -346,7 +346,8 @@ impl Builder {
         ensures nets { IfOk result (λ outs. Each (IsNet self.new.nets) outs) }
         ensures value { OnOk result ((modules : List ModuleText) (read : ℕ → ℕ) (parts : ℕ → ℕ → ℕ) → SettlesOpen modules self.new read parts → SettlesOpen modules self.old read parts
             × (module_named modules whole.now.name ≡ Some whole.now → SolvesPart whole.now (placed_instance (length self.old.nets) name.now whole.now inputs.now) read (parts (length self.old.instances)))) }
-        ensures places { OnOk result (Places (name.now ∷ []) self.old self.new) }
+        ensures places { OnOk result (Places (placed_instance (length self.old.nets) name.now whole.now inputs.now ∷ []) self.old self.new) }
+        ensures connects { OnOk result (Connects whole.now (placed_instance (length self.old.nets) name.now whole.now inputs.now)) }
     {
         whole.rules();
         let alloc = self.alloc;
@@ -385,6 +386,8 @@ impl Builder {
         ensures value { IfOk result (λ w. (read : ℕ → ℕ) → SettlesDraft self.new read → SettlesDraft self.old read × (read w.number ≡ cell_value read width cell)) }
         ensures adds { OnOk result (Adds self.old self.new) }
         ensures closes { OnOk result (Closes self.old self.new) }
+        ensures instances { OnOk result (self.new.instances ≡ self.old.instances) }
+        ensures names { OnOk result ((other : List ℕ) → name.now ≢ other → IsNew other (names_of self.old) → IsNew other (names_of self.new)) }
         ensures fresh { OnOk result (IsNotNumbered name.now → CanFresh self.old → CanFresh self.new) }
     {
         let _ = &self.nets;

@@ -1,12 +1,15 @@
-use Rattle.std.proofs.Common.{◌≡◌, ℕ, zero, suc, ◌<◌, ◌^◌, List, [], ◌∷◌, ◌++◌, Bool, true, false, Option, Some, None, refl, ap, subst, ◌∙◌, arith, lit<}
+use Rattle.std.proofs.Common.{◌≡◌, ◌≢◌, ℕ, zero, suc, ◌<◌, ◌^◌, List, [], ◌∷◌, ◌++◌, Bool, true, false, Option, Some, None, refl, ap, subst, ◌∙◌, arith, lit<}
 use Rattle.std.specs.List.{AllByRecursion as Each}
-use Rattle.std.specs.Prelude.{slice_index, slice_get, ◌==◌, if◌then◌else◌, bit_and}
+use Rattle.std.specs.Prelude.{slice_index, slice_get, ◌==◌, if◌then◌else◌, bit_and, codes, IsTrue}
 use Rattle.std.proofs.lemmas.Nat.{pow_pos}
 use Rattle.ap_net.specs.declared.net.Role.TheVariants as role
 use Rattle.ap_net.specs.declared.net.ModuleNet.{ModuleNet}
 use Rattle.ap_net.specs.declared.net.Next.{Next}
 use Rattle.ap_net.specs.Wiring.{IsSource, reset_of, Ranked, Unclocked, IsDriven}
-use Rattle.ap_net.specs.Draft.{Draft, AreDriven, RegistersBelow}
+use Rattle.ap_net.specs.Modules.{ModuleText}
+use Rattle.ap_net.specs.Names.{numbered}
+use Rattle.ap_net.specs.Draft.{Draft, AreDriven, RegistersBelow, CanFresh}
+use Rattle.ap_net.proofs.Laws.{IsNotNumbered-other, is_other_letter}
 use Rattle.ap_net.specs.Runs.{bit}
 use Rattle.ap_top.specs.declared.form.Form.{Form}
 use Rattle.ap_top.specs.Machine.{State, fire, written, sum_of}
@@ -25,16 +28,16 @@ source x net at is free = free (subst (λ (y : ModuleNet). IsSource y.role) (sam
 
 -- every port of the base is driven
 base_driven : (form : Form) → AreDriven (base form)
-base_driven form zero net at free none = source _ net at tt free
-base_driven form (suc zero) net at free none = source _ net at tt free
-base_driven form (suc (suc zero)) net at free none = source _ net at tt free
-base_driven form (suc (suc (suc zero))) net at free none = source _ net at tt free
-base_driven form (suc (suc (suc (suc zero)))) net at free none = none.0 refl
-base_driven form (suc (suc (suc (suc (suc zero))))) net at free none = source _ net at tt free
-base_driven form (suc (suc (suc (suc (suc (suc zero)))))) net at free none = source _ net at tt free
-base_driven form (suc (suc (suc (suc (suc (suc (suc zero))))))) net at free none = none.1.0 refl
-base_driven form (suc (suc (suc (suc (suc (suc (suc (suc zero)))))))) net at free none = none.1.1.0 refl
-base_driven form (suc (suc (suc (suc (suc (suc (suc (suc (suc n))))))))) net at free none = cc
+base_driven form zero net at free none unjoined = source _ net at tt free
+base_driven form (suc zero) net at free none unjoined = source _ net at tt free
+base_driven form (suc (suc zero)) net at free none unjoined = source _ net at tt free
+base_driven form (suc (suc (suc zero))) net at free none unjoined = source _ net at tt free
+base_driven form (suc (suc (suc (suc zero)))) net at free none unjoined = none.0 refl
+base_driven form (suc (suc (suc (suc (suc zero))))) net at free none unjoined = source _ net at tt free
+base_driven form (suc (suc (suc (suc (suc (suc zero)))))) net at free none unjoined = source _ net at tt free
+base_driven form (suc (suc (suc (suc (suc (suc (suc zero))))))) net at free none unjoined = none.1.0 refl
+base_driven form (suc (suc (suc (suc (suc (suc (suc (suc zero)))))))) net at free none unjoined = none.1.1.0 refl
+base_driven form (suc (suc (suc (suc (suc (suc (suc (suc (suc n))))))))) net at free none unjoined = cc
 
 port : (x net : ModuleNet) → Some x ≡ Some net → (x.role ≡ role.Register (reset_of net.role) → ⊥) → net.role ≡ role.Register (reset_of net.role) → ⊥
 port x net at never is = never (ap (λ (y : ModuleNet). y.role) (same at) ∙ is)
@@ -61,8 +64,8 @@ four_clocked form nets (suc (suc (suc zero))) lt none = none.1.1.1.0 refl
 four_clocked form nets (suc (suc (suc (suc n)))) lt none = absurd (omega arith)
 
 -- every net of the processor has its driver
-pub clocked-IsDriven : (form : Form) (d : Draft) (nets : Nets) → IsShown form d nets → IsDriven d.nets d.assigns (four_nexts form nets)
-clocked-IsDriven form d nets s = record {
+pub clocked-IsDriven : (form : Form) (adder : ModuleText) (d : Draft) (nets : Nets) → IsShown form adder d nets → IsDriven d.nets d.assigns (four_nexts form nets) d.instances
+clocked-IsDriven form adder d nets s = record {
   driven = s.closes.driven (base_driven form);
   clocked = λ n net at is none. four_clocked form nets n (s.closes.registers 4 (base_registers form) n net at is) none;
 }
@@ -151,3 +154,14 @@ pub pushed_four : (d d1 d2 d3 d4 : Draft) (a b c e : Next) → d.nexts ≡ [] �
 pushed_four d d1 d2 d3 d4 a b c e none e1 e2 e3 e4 =
     let more : Next → Draft → Draft = λ n x. record x { nexts = x.nexts ++ n ∷ [] } in
     e4 ∙ ap (more e) (e3 ∙ ap (more c) (e2 ∙ ap (more b) e1)) ∙ ap (λ (ns : List Next). record d { nexts = (((ns ++ a ∷ []) ++ b ∷ []) ++ c ∷ []) ++ e ∷ [] }) none
+
+-- further wires can be had over the base
+pub base_fresh : (form : Form) → CanFresh (base form)
+base_fresh form = record {
+  free = λ k low high.
+      let other : (name : List ℕ) → IsTrue (is_other_letter name) → name ≢ numbered k = λ name h e. IsNotNumbered-other name h k high e in (
+        other (codes "clk") refl,
+        (other (codes "rst") refl, (other (codes "pc") refl, (other (codes "r_R") refl, (other (codes "v_1") refl, (other (codes "x_1") refl,
+        (other (codes "iaddr") refl, (other (codes "idata") refl, (other (codes "mwait") refl, (other (codes "stall") refl, (other (codes "kill") refl, tt)))))))))),
+      );
+}

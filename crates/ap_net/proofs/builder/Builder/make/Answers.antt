@@ -45,6 +45,7 @@ returns-clause-makes c =
     let small : wire_count c.args.self.now.nets < 2 ^ 64 = omega arith in
     rw (c.in_ok-cell.ensures.ok, c.in_ok-to.ensures.ok, c.in_ok-to.ensures.wire) (record {
       adds = Adds-made c.args.self.now _ c.args.cell wired connected c.requires.fits;
+      instances = refl;
       closes = Closes-made c.args.self.now _ c.args.cell (λ s. s);
       fresh = CanFresh-fresh c.args.self.now.instances c.args.self.now.nets _ refl refl small;
       names = λ name other h. IsNew-made c.args.self.now.instances c.args.self.now.nets _ name (λ e. other _ small (sym e)) h;

@@ -31,7 +31,7 @@ instance-requires-clause-widths c =
     let outs : c.as_slice.result.now ≡ output_wires (length d.nets) m = c.as_slice.ensures ∙ c.in_ok-outputs.ensures.outputs ∙ ap (λ (ps : List Port). wires_from (length d.nets) (output_widths ps)) c.ports.ensures in
     let nets : c.deref.result.now ≡ merged (outputs m) c.args.inputs.now (output_wires (length d.nets) m) =
     c.deref.ensures.value ∙ c.in_ok-nets.ensures ∙ (λ j. merged (map (λ (p : Port). p.output) (c.ports-2.ensures j)) c.args.inputs.now (outs j)) in
-    rw nets (placed-widths d c.args.name.now m c.args.inputs.now wired joined c.requires.widths c.requires.nets)
+    rw nets (placed-widths (length d.nets) m c.args.inputs.now c.requires.widths)
 
 pub instance-requires-clause-nets : goal.instance-requires-clause-nets
 instance-requires-clause-nets c =
@@ -162,3 +162,6 @@ returns-clause-places c =
     rw made (Places-placed d more inst c.requires.other (placed-Adds d c.args.name.now m c.args.inputs.now wired joined c.requires.widths c.requires.nets) (placed-Closes d c.args.name.now m c.args.inputs.now wired joined c.requires.widths c.requires.nets) (placed-ports d c.args.name.now m c.args.inputs.now wired joined c.requires.widths c.requires.nets)
     (subst (λ (x : Draft). CanFresh x) mid c.in_ok-outputs.ensures.fresh)
     (subst (λ (x : Draft). (other : List ℕ) → IsNotNumbered other → IsNew other (names_of d) → IsNew other (names_of x)) mid c.in_ok-outputs.ensures.names))
+
+pub returns-clause-connects : goal.returns-clause-connects
+returns-clause-connects c = record { named = refl; widths = placed-widths (length c.args.self.now.nets) c.args.whole.now c.args.inputs.now c.requires.widths; drives = refl }
