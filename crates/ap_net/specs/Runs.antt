@@ -1,8 +1,7 @@
 -- Runs of a netlist in its environment: memories that answer in the same cycle and take a write at the edge.
 use Rattle.std.specs.Prelude.{◌≡◌, ℕ, zero, suc, ◌+◌, ◌<◌, ◌==◌, List, [], ◌∷◌, map, codes, slice_index, Bool, if◌then◌else◌}
 use Rattle.ap_net.specs.declared.net.FlatNet.{FlatNet}
-use Rattle.ap_net.specs.Modules.{reset_at}
-use Rattle.ap_net.specs.Flat.{Flat, Solves, value_named}
+use Rattle.ap_net.specs.Flat.{Flat, Solves, value_named, reset_in}
 use Rattle.ap_image.specs.declared.shape.MemShape.{MemShape}
 use Rattle.ap_image.specs.declared.image.Image.{Image}
 use Rattle.ap_image.specs.declared.trace.TraceLine.{TraceLine}
@@ -17,7 +16,7 @@ pub record NetState : Type 0 where
 
 -- after the reset edge each register has its reset value, and the memories are those of the image
 abbrev pub reset_state : Flat → Image → NetState
-reset_state f image = record { registers = map (λ x. reset_at f.nets x.register.number) f.nexts; mems = image.mems }
+reset_state f image = record { registers = map (λ x. reset_in f x.register.number) f.nexts; mems = image.mems }
 
 abbrev pub bit : Bool → ℕ
 bit b = if b then 1 else 0

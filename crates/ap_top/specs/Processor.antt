@@ -39,8 +39,3 @@ pub record IsProcessor (form : Form) (f : Flat) : Type 0 where
 pub record IsDesign (form : Form) (modules : List ModuleText) : Type 0 where
   pub ports : top_ports modules ≡ ports_of (outside_of form)
   pub behaves : IsProcessor form (opened modules)
-
--- the one module of the form's processor
-pub record IsDesignModule (form : Form) (m : ModuleText) : Type 0 where
-  pub name : m.name ≡ codes "top"
-  pub design : IsDesign form (m ∷ [])
