@@ -1,0 +1,5 @@
+//! Combinational resources.
+#![tactic(auto)]
+
+pub mod levels;
+pub mod parts;
