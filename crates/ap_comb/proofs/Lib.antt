@@ -1,3 +1,4 @@
 pub mod Cuts
 pub mod MovedTwice
 pub mod LevelSteps
+pub mod Halves
