@@ -2,3 +2,5 @@ pub mod Cuts
 pub mod MovedTwice
 pub mod LevelSteps
 pub mod Halves
+pub mod Signs
+pub mod AluResults
