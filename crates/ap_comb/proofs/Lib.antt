@@ -1,3 +1,6 @@
 pub mod Cuts
 pub mod MovedTwice
 pub mod LevelSteps
+pub mod BitCounts
+pub mod Runs
+pub mod Shifted

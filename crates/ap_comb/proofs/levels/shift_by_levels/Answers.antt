@@ -1,4 +1,4 @@
-use Rattle.std.proofs.Common.{◌≡◌, ℕ, ◌+◌, ◌*◌, ◌/◌, ◌%◌, ◌^◌, ◌<◌, ◌≤◌, refl, sym, ap, ◌∙◌, arith}
+use Rattle.std.proofs.Common.{◌≡◌, ◌+◌, ◌%◌, ◌^◌, ◌<◌, ◌≤◌, refl, sym, ap, ◌∙◌, arith}
 use Rattle.std.proofs.Math.Nat.{mod-one}
 use Rattle.std.proofs.lemmas.Nat.{pow_pos}
 use Rattle.ap_net.proofs.Laws.{Makes-refl, Makes-trans}
@@ -39,9 +39,11 @@ loop-i-preserved c =
       value = λ read s.
           let level = c.in_ok-shifted.ensures.value read s in
           let by = c.in_ok-by.ensures.value read level.0 in
-          let old = before.value read by.0 in
-          (old.0, level.1 ∙ rw (by.1, level_places c.loop-i.i c.args.count c.args.x.width below c.requires.width c.requires.high, before.width, old.1)
-              (level_more read c.args.way c.args.x.width (read c.args.x.number) (read c.args.by.number) c.loop-i.i (old.0.fits _ _ c.requires.x.declared) within));
+          let old = before.value read by.0 in (
+            old.0,
+            level.1 ∙ rw (by.1, level_places c.loop-i.i c.args.count c.args.x.width below c.requires.width c.requires.high, before.width, old.1)
+                (level_more read c.args.way c.args.x.width (read c.args.x.number) (read c.args.by.number) c.loop-i.i (old.0.fits _ _ c.requires.x.declared) within),
+          );
       makes = Makes-trans _ _ _ before.makes (Makes-trans _ _ _ c.in_ok-by.ensures.makes c.in_ok-shifted.ensures.makes);
     }
 
