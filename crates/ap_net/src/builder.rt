@@ -56,6 +56,11 @@ impl Builder {
             wires: 0,
         })
     }
+
+    /// The allocator from which the builder has its memory, for pieces of circuit that need some of their own.
+    pub fn allocator(&self) -> Global {
+        self.alloc
+    }
 }
 
 /// How many wires a net of this role is.
