@@ -4,3 +4,4 @@ pub mod LevelSteps
 pub mod BitCounts
 pub mod Runs
 pub mod Shifted
+pub mod KindValues

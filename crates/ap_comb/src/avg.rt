@@ -1,14 +1,18 @@
-//! The average: half of the sum.
+//! The kind `avg`: half of the sum.
 ghost use Rattle.std.specs.Prelude.{◌≡◌, ℕ, ◌/◌, ◌%◌, ◌^◌, ◌<◌, ◌≤◌, IfOk, OnOk};
 ghost use Rattle.ap_net.specs.Cells.{IsNet};
 ghost use Rattle.ap_net.specs.Draft.{CanFresh, Makes, SettlesDraft};
 ghost use Rattle.ap_bits.specs.declared.term.BinOp.TheVariants.{Add, Srl};
 ghost use Rattle.ap_bits.specs.Operations.{binary_value};
+ghost use Rattle.ap_comb.specs.Averages.{avg_card};
 
 use crate::parts::{upper_bits, widened};
+use ap_bits::BinOp;
+use ap_bits::value::binary;
 use ap_net::NoMemory;
 use ap_net::builder::Builder;
 use ap_net::cell::{Cell, TwoOp, Wire};
+use ap_unit::{UnitKind, declare_inputs, show_result};
 
 /// The sum of two nets of more than one bit, its carry left out, moved to the right by one place.
 #[tactic(auto, using(ap_net::proofs::Laws::laws))]
@@ -47,4 +51,42 @@ pub fn average(out: &mut Builder, a: Wire, b: Wire) -> Result<Wire, NoMemory>
         return Ok(zero);
     }
     half_of_sum(out, a, b)
+}
+
+/// An averager: `avg`, half of the sum rounded down, where the sum leaves its carry out.
+#[derive(Clone, Copy, Debug)]
+pub struct Avg;
+
+impl UnitKind for Avg {
+    ghost card = { λ _. avg_card };
+
+    fn name(&self) -> &str {
+        "avg"
+    }
+
+    fn op_count(&self) -> u32 {
+        1
+    }
+
+    fn op_name(&self, _i: u32) -> &str {
+        "avg"
+    }
+
+    fn fits(&self, w: u32) -> bool {
+        1 <= w && w <= 64
+    }
+
+    fn latency(&self, _w: u32) -> u32 {
+        1
+    }
+
+    fn value(&self, w: u32, _op: u32, a: u64, b: u64) -> u64 {
+        binary(BinOp::Srl, w, binary(BinOp::Add, w, a, b), 1)
+    }
+
+    fn build(&self, w: u32, out: &mut Builder) -> Result<(), NoMemory> {
+        let inputs = declare_inputs(out, 1, w)?;
+        let y = average(out, inputs.a, inputs.b)?;
+        show_result(out, inputs, y)
+    }
 }

@@ -1,17 +1,22 @@
-//! The shifter: shifts to the left and to the right, and a rotation.
-ghost use Rattle.std.specs.Prelude.{◌≡◌, ℕ, ◌-◌, ◌/◌, ◌%◌, ◌^◌, ◌<◌, ◌≤◌, ◌==◌, nat_lt, if◌then◌else◌, IfOk, OnOk, slice_get, Some, bit_and, bit_or, bit_xor};
+//! The kind `shift`: shifts to the left and to the right, and a rotation.
+ghost use Rattle.std.specs.Prelude.{◌≡◌, ℕ, ◌-◌, ◌/◌, ◌%◌, ◌^◌, ◌<◌, ◌≤◌, ◌==◌, nat_lt, if◌then◌else◌, IfOk, OnOk, slice_get, Some, bit_and, bit_or, bit_xor, length, IsTrue, ◌∷◌, [], codes};
 ghost use Rattle.ap_net.specs.Cells.{IsNet};
 ghost use Rattle.ap_net.specs.Draft.{CanFresh, Makes, SettlesDraft};
 ghost use Rattle.ap_bits.specs.declared.term.BinOp.{BinOp};
 ghost use Rattle.ap_bits.specs.Operations.{binary_value};
 ghost use Rattle.ap_comb.specs.Moves.{moved_left, moved_right};
-ghost use Rattle.ap_comb.specs.Shifts.{shift_ops};
+ghost use Rattle.ap_bits.specs.Cards.{allows};
+ghost use Rattle.ap_bits.specs.declared.card.Widths.TheVariants.{PowersOfTwo};
+ghost use Rattle.ap_comb.specs.Shifts.{shift_ops, shift_card};
 
 use crate::levels::{Way, shift_by_levels};
 use crate::parts::{bit, repeated, upper_bits};
+use ap_bits::BinOp;
+use ap_bits::value::binary;
 use ap_net::NoMemory;
 use ap_net::builder::Builder;
 use ap_net::cell::{Cell, TwoOp, Wire};
+use ap_unit::{UnitKind, declare_inputs, show_result};
 
 /// Whether a shift is below 2^`count`: none of its bits from `count` on is 1.
 #[tactic(auto, using(ap_net::proofs::Laws::laws))]
@@ -138,7 +143,7 @@ fn limited(
 
 /// The operation `sel` of a shifter on nets of 2^`count` bits.
 #[tactic(auto, using(ap_net::proofs::Laws::laws))]
-pub fn shift(out: &mut Builder, sel: Wire, a: Wire, b: Wire, count: u32) -> Result<Wire, NoMemory>
+pub fn shifted(out: &mut Builder, sel: Wire, a: Wire, b: Wire, count: u32) -> Result<Wire, NoMemory>
     requires fresh { CanFresh out.old.nets }
     requires sel { IsNet out.old.nets sel }
     requires two_bits { sel.width ≡ 2 }
@@ -153,6 +158,70 @@ pub fn shift(out: &mut Builder, sel: Wire, a: Wire, b: Wire, count: u32) -> Resu
 {
     let control = make_control(out, sel, a)?;
     let near = shift_near(out, control, a, b, count)?;
-    let shifted = limited(out, control, near, b, count)?;
-    Ok(shifted)
+    let limited = limited(out, control, near, b, count)?;
+    Ok(limited)
+}
+
+/// The operation of this number.
+fn operation(op: u32) -> BinOp
+    requires { op < 4 }
+    ensures { slice_get shift_ops op ≡ Some result }
+{
+    match op {
+        0 => BinOp::Sll,
+        1 => BinOp::Srl,
+        2 => BinOp::Sra,
+        _ => BinOp::Rol,
+    }
+}
+
+/// The number of levels for a width that is a power of two.
+fn levels_of(w: u32) -> u32
+    requires { IsTrue (allows PowersOfTwo w) }
+    ensures { w ≡ 2 ^ result }
+{
+    w.trailing_zeros()
+}
+
+/// A shifter: `sll`, `srl`, `sra` and `rol`, at widths that are powers of two.
+#[derive(Clone, Copy, Debug)]
+pub struct Shift;
+
+impl UnitKind for Shift {
+    ghost card = { λ _. shift_card };
+
+    fn name(&self) -> &str {
+        "shift"
+    }
+
+    fn op_count(&self) -> u32 {
+        4
+    }
+
+    fn op_name(&self, i: u32) -> &str {
+        match i {
+            0 => "sll",
+            1 => "srl",
+            2 => "sra",
+            _ => "rol",
+        }
+    }
+
+    fn fits(&self, w: u32) -> bool {
+        matches!(w, 1 | 2 | 4 | 8 | 16 | 32 | 64)
+    }
+
+    fn latency(&self, _w: u32) -> u32 {
+        1
+    }
+
+    fn value(&self, w: u32, op: u32, a: u64, b: u64) -> u64 {
+        binary(operation(op), w, a, b)
+    }
+
+    fn build(&self, w: u32, out: &mut Builder) -> Result<(), NoMemory> {
+        let inputs = declare_inputs(out, 2, w)?;
+        let y = shifted(out, inputs.sel, inputs.a, inputs.b, levels_of(w))?;
+        show_result(out, inputs, y)
+    }
 }

@@ -1,7 +1,7 @@
 use Rattle.std.proofs.Common.{◌∙◌}
 use Rattle.ap_net.proofs.Laws.{Makes-trans}
 use Rattle.ap_comb.proofs.BitCounts.{counted}
-use Rattle.ap_comb.proofs.count.count.Goals as goal
+use Rattle.ap_comb.proofs.count.number_of_bits.Goals as goal
 
 pub returns-clause-value : goal.returns-clause-value
 returns-clause-value c = λ read s.

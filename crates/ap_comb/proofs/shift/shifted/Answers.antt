@@ -3,11 +3,11 @@ use Rattle.std.proofs.lemmas.Nat.{pow_pos}
 use Rattle.ap_net.proofs.Laws.{Makes-trans}
 use Rattle.ap_comb.proofs.BitCounts.{count_below}
 use Rattle.ap_comb.proofs.Shifted.{shown_is}
-use Rattle.ap_comb.proofs.shift.shift.Goals as goal
+use Rattle.ap_comb.proofs.shift.shifted.Goals as goal
 
 pub returns-clause-value : goal.returns-clause-value
 returns-clause-value c = λ read s.
-    let shifted = c.in_ok-shifted.ensures.value read s in
+    let shifted = c.in_ok-limited.ensures.value read s in
     let near = c.in_ok-near.ensures.value read shifted.0 in
     let control = c.in_ok-control.ensures.value read near.0 in
     let some : 1 ≤ c.args.a.width = omega (arith, c.requires.width, pow_pos c.args.count) in (
@@ -17,7 +17,7 @@ returns-clause-value c = λ read s.
     )
 
 pub returns-clause-makes : goal.returns-clause-makes
-returns-clause-makes c = Makes-trans _ _ _ c.in_ok-control.ensures.makes (Makes-trans _ _ _ c.in_ok-near.ensures.makes c.in_ok-shifted.ensures.makes)
+returns-clause-makes c = Makes-trans _ _ _ c.in_ok-control.ensures.makes (Makes-trans _ _ _ c.in_ok-near.ensures.makes c.in_ok-limited.ensures.makes)
 
 pub shift_near-requires-clause-bits : goal.shift_near-requires-clause-bits
 shift_near-requires-clause-bits c = omega (arith, count_below c.args.count)
