@@ -5,3 +5,4 @@ pub mod BitCounts
 pub mod Runs
 pub mod Shifted
 pub mod KindValues
+pub mod Halves
