@@ -1,4 +1,4 @@
-use Rattle.std.proofs.Common.{◌∙◌, refl, arith}
+use Rattle.std.proofs.Common.{◌∙◌, arith}
 use Rattle.ap_net.proofs.Laws.{Makes-trans, Makes-refl}
 use Rattle.ap_comb.proofs.parts.widened.Goals as goal
 
