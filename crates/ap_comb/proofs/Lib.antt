@@ -6,3 +6,4 @@ pub mod Runs
 pub mod Shifted
 pub mod KindValues
 pub mod Halves
+pub mod NandValues
