@@ -7,3 +7,5 @@ pub mod Shifted
 pub mod KindValues
 pub mod Halves
 pub mod NandValues
+pub mod Signs
+pub mod AluResults

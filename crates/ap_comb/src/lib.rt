@@ -4,6 +4,7 @@
 //! its width, which value it has in every solution, and that fresh wires alone were made.
 #![tactic(auto)]
 
+pub mod alu;
 pub mod avg;
 pub mod count;
 pub mod leading;
@@ -13,13 +14,7 @@ pub mod select;
 pub mod shift;
 pub mod sums;
 
+pub use alu::Alu;
 pub use avg::Avg;
 pub use count::Count;
 pub use shift::Shift;
-
-#[cfg(test)]
-mod evaluate;
-#[cfg(test)]
-mod kind_tests;
-#[cfg(test)]
-mod nand;

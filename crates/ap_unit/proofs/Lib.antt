@@ -1,3 +1,4 @@
 pub mod Placed
 pub mod Single
 pub mod Names
+pub mod Laws
