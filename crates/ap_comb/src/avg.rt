@@ -54,7 +54,7 @@ pub fn average(out: &mut Builder, a: Wire, b: Wire) -> Result<Wire, NoMemory>
 }
 
 /// An averager: `avg`, half of the sum rounded down, where the sum leaves its carry out.
-#[derive(Clone, Copy, Debug)]
+#[derive(Clone, Copy, Debug, PartialEq, Eq)]
 pub struct Avg;
 
 impl UnitKind for Avg {

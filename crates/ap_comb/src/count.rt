@@ -61,7 +61,7 @@ fn operation(op: u32) -> UnOp
 }
 
 /// A counter of bits: `pop` and `clz`, of the first operand.
-#[derive(Clone, Copy, Debug)]
+#[derive(Clone, Copy, Debug, PartialEq, Eq)]
 pub struct Count;
 
 impl UnitKind for Count {

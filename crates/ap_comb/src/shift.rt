@@ -187,7 +187,7 @@ fn levels_of(w: u32) -> u32
 }
 
 /// A shifter: `sll`, `srl`, `sra` and `rol`, at widths that are powers of two.
-#[derive(Clone, Copy, Debug)]
+#[derive(Clone, Copy, Debug, PartialEq, Eq)]
 pub struct Shift;
 
 impl UnitKind for Shift {

@@ -4,7 +4,7 @@
 
 ghost use Rattle.ap_bits.specs.Cards.{FitsWidth};
 
-use ap_comb::{Avg, Count, Shift};
+use ap_comb::{Alu, Avg, Count, Shift};
 use ap_net::NoMemory;
 use ap_net::builder::Builder;
 use ap_net::module::Netlist;
@@ -70,6 +70,7 @@ fn printed(alloc: Global, shelf: &Shelf, words: &[String]) -> Result<String, NoM
 fn main(rt: HostRuntime) -> io::Result<()> {
     let alloc = rt.alloc();
     let mut kinds: Vec<Box<dyn UnitKind>> = Vec::new(alloc);
+    kinds.push(Box::new(alloc, Alu)?)?;
     kinds.push(Box::new(alloc, Shift)?)?;
     kinds.push(Box::new(alloc, Count)?)?;
     kinds.push(Box::new(alloc, Avg)?)?;
