@@ -47,7 +47,7 @@ unfolding count_trailing_zeros
 power_width w h = by_each w (λ n. n ≡ 2 ^ count_trailing_zeros 32 n) (1 ∷ 2 ∷ 4 ∷ 8 ∷ 16 ∷ 32 ∷ 64 ∷ []) (refl, (refl, (refl, (refl, (refl, (refl, (refl, tt))))))) h
 
 -- the values of terms with one operation
-on_both_value : (op : BinOp) (w a b : ℕ) → term_value (Bin op A B) w a b ≡ binary_value op w a b
+pub on_both_value : (op : BinOp) (w a b : ℕ) → term_value (Bin op A B) w a b ≡ binary_value op w a b
 on_both_value op w a b = term_value-bin op A B w a b ∙ (λ i. binary_value op w (term_value-first w a b i) (term_value-second w a b i))
 
 on_first_value : (op : UnOp) (w a b : ℕ) → term_value (Un op A) w a b ≡ unary_value op w a
@@ -85,7 +85,7 @@ count_operation (suc zero) h = (Clz, refl)
 count_operation (suc (suc n)) h = absurd (omega arith)
 
 -- the declared inputs
-abbrev the_inputs : ℕ → ℕ → Inputs
+abbrev pub the_inputs : ℕ → ℕ → Inputs
 the_inputs s w = record { sel = record { number = 0; width = s }; a = record { number = 1; width = w }; b = record { number = 2; width = w } }
 
 pub shift_has_value : (inputs : Inputs) (w : ℕ) (d : Draft) (y : Wire) → inputs ≡ the_inputs 2 w → y.width ≡ inputs.a.width

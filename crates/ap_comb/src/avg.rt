@@ -16,7 +16,7 @@ use ap_unit::{UnitKind, declare_inputs, show_result};
 
 /// The sum of two nets of more than one bit, its carry left out, moved to the right by one place.
 #[tactic(auto, using(ap_net::proofs::Laws::laws))]
-fn half_of_sum(out: &mut Builder, a: Wire, b: Wire) -> Result<Wire, NoMemory>
+pub fn half_of_sum(out: &mut Builder, a: Wire, b: Wire) -> Result<Wire, NoMemory>
     requires fresh { CanFresh out.old.nets }
     requires a { IsNet out.old.nets a }
     requires b { IsNet out.old.nets b }
@@ -54,7 +54,7 @@ pub fn average(out: &mut Builder, a: Wire, b: Wire) -> Result<Wire, NoMemory>
 }
 
 /// An averager: `avg`, half of the sum rounded down, where the sum leaves its carry out.
-#[derive(Clone, Copy, Debug)]
+#[derive(Clone, Copy, Debug, PartialEq, Eq)]
 pub struct Avg;
 
 impl UnitKind for Avg {

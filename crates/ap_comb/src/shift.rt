@@ -20,7 +20,7 @@ use ap_unit::{UnitKind, declare_inputs, show_result};
 
 /// Whether a shift is below 2^`count`: none of its bits from `count` on is 1.
 #[tactic(auto, using(ap_net::proofs::Laws::laws))]
-fn is_within(out: &mut Builder, shift: Wire, count: u32) -> Result<Wire, NoMemory>
+pub fn is_within(out: &mut Builder, shift: Wire, count: u32) -> Result<Wire, NoMemory>
     requires fresh { CanFresh out.old.nets }
     requires shift { IsNet out.old.nets shift }
     requires high { shift.width ≤ 64 }
@@ -37,7 +37,7 @@ fn is_within(out: &mut Builder, shift: Wire, count: u32) -> Result<Wire, NoMemor
 
 /// The bit that comes in above: the high bit of `a` where the net `signed` is 1, else 0.
 #[tactic(auto, using(ap_net::proofs::Laws::laws))]
-fn fill_bit(out: &mut Builder, signed: Wire, a: Wire) -> Result<Wire, NoMemory>
+pub fn fill_bit(out: &mut Builder, signed: Wire, a: Wire) -> Result<Wire, NoMemory>
     requires fresh { CanFresh out.old.nets }
     requires signed { IsNet out.old.nets signed }
     requires one_bit { signed.width ≡ 1 }
@@ -54,16 +54,19 @@ fn fill_bit(out: &mut Builder, signed: Wire, a: Wire) -> Result<Wire, NoMemory>
 
 /// What says which shift it is: the two bits of the operation's number, and the bit that comes in above.
 #[derive(Clone, Copy, Debug)]
-struct Control {
-    low: Wire,
-    high: Wire,
-    fill: Wire,
+pub struct Control {
+    /// The low bit of the number.
+    pub low: Wire,
+    /// The high bit of the number.
+    pub high: Wire,
+    /// The bit that comes in above.
+    pub fill: Wire,
 }
 
 /// Makes the control: of the operations 0 to 3 the bit `high` tells a signed shift from one of 1 and 2, and a rotation from
 /// a shift to the left of 0 and 3.
 #[tactic(auto, using(ap_net::proofs::Laws::laws))]
-fn make_control(out: &mut Builder, sel: Wire, a: Wire) -> Result<Control, NoMemory>
+pub fn make_control(out: &mut Builder, sel: Wire, a: Wire) -> Result<Control, NoMemory>
     requires fresh { CanFresh out.old.nets }
     requires sel { IsNet out.old.nets sel }
     requires two_bits { sel.width ≡ 2 }
@@ -83,7 +86,7 @@ fn make_control(out: &mut Builder, sel: Wire, a: Wire) -> Result<Control, NoMemo
 
 /// The shift or rotation by as many places as the lowest `count` bits of `b` say: to the right for the operations 1 and 2.
 #[tactic(auto, using(ap_net::proofs::Laws::laws))]
-fn shift_near(
+pub fn shift_near(
     out: &mut Builder,
     control: Control,
     a: Wire,
@@ -112,7 +115,7 @@ fn shift_near(
 
 /// The shift where it is below 2^`count`, else what a shift by more leaves. A rotation, operation 3, is never too far.
 #[tactic(auto, using(ap_net::proofs::Laws::laws))]
-fn limited(
+pub fn limited(
     out: &mut Builder,
     control: Control,
     near: Wire,
@@ -184,7 +187,7 @@ fn levels_of(w: u32) -> u32
 }
 
 /// A shifter: `sll`, `srl`, `sra` and `rol`, at widths that are powers of two.
-#[derive(Clone, Copy, Debug)]
+#[derive(Clone, Copy, Debug, PartialEq, Eq)]
 pub struct Shift;
 
 impl UnitKind for Shift {
