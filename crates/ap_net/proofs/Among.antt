@@ -4,15 +4,13 @@ use Rattle.std.specs.Prelude.{slice_get, option_map, if◌then◌else◌}
 use Rattle.std.proofs.lemmas.List.{length-map}
 use Rattle.std.proofs.lemmas.Option.{slice_get-map, slice_get-get_or}
 use Rattle.ap_net.specs.declared.net.Role.TheVariants as role
-use Rattle.ap_net.specs.declared.net.FlatNet.{FlatNet}
+use Rattle.ap_net.specs.declared.net.ModuleNet.{ModuleNet}
 use Rattle.ap_net.specs.declared.net.Port.{Port}
 use Rattle.ap_net.specs.declared.net.Net.{Net}
 use Rattle.ap_net.specs.declared.net.RegNet.{RegNet}
 use Rattle.ap_net.specs.Wiring.{reset_of}
 use Rattle.ap_net.specs.Modules.{ModuleText, nets_of, nets_among, port_net, wire_net, reg_net, reset_at, reset_value}
-use Rattle.ap_net.proofs.Lists.{get_left, All-from, All-front, All-back}
-use Rattle.ap_net.proofs.Renumbered.{All-unmap}
-use Rattle.ap_net.proofs.Numbering.{get_right}
+use Rattle.ap_net.proofs.Lists.{get_left, get_right, All-from, All-front, All-back, All-unmap}
 
 -- an element of a mapped list
 mapped : {X Y : Type 0} (f : X → Y) (xs : List X) (i : ℕ) (d : X) → i < length xs → slice_get (map f xs) i ≡ Some (f (get_or xs i d))
@@ -62,14 +60,18 @@ past ports wires regs n lt le le' =
     omega arith
 
 -- every port, wire and register has at least one bit
-mapped_wide : {X : Type 0} (f : X → FlatNet) (xs : List X) → Each (λ (n : FlatNet). (1 ≤ n.width) × (n.width ≤ 64)) (map f xs) → Each (λ x. 1 ≤ (f x).width) xs
-mapped_wide f xs h = All-from (λ x. (1 ≤ (f x).width) × ((f x).width ≤ 64)) (λ x. 1 ≤ (f x).width) (λ x w. w.0) xs (All-unmap (λ (n : FlatNet). (1 ≤ n.width) × (n.width ≤ 64)) f xs h)
+mapped_wide : {X : Type 0} (f : X → ModuleNet) (xs : List X) → Each (λ (n : ModuleNet). (1 ≤ n.width) × (n.width ≤ 64)) (map f xs) → Each (λ x. 1 ≤ (f x).width) xs
+mapped_wide f xs h = All-from (λ x. (1 ≤ (f x).width) × ((f x).width ≤ 64)) (λ x. 1 ≤ (f x).width) (λ x w. w.0) xs (All-unmap (λ (n : ModuleNet). (1 ≤ n.width) × (n.width ≤ 64)) f xs h)
 
-pub ports_wide : (m : ModuleText) → Each (λ (n : FlatNet). (1 ≤ n.width) × (n.width ≤ 64)) (nets_of m) → Each (λ (x : Port). 1 ≤ x.width) m.ports
+pub ports_wide : (m : ModuleText) → Each (λ (n : ModuleNet). (1 ≤ n.width) × (n.width ≤ 64)) (nets_of m) → Each (λ (x : Port). 1 ≤ x.width) m.ports
 ports_wide m h = mapped_wide port_net m.ports (All-front _ (map port_net m.ports) (map wire_net m.wires) (All-front _ (map port_net m.ports ++ map wire_net m.wires) (map reg_net m.regs) h))
 
-pub wires_wide : (m : ModuleText) → Each (λ (n : FlatNet). (1 ≤ n.width) × (n.width ≤ 64)) (nets_of m) → Each (λ (x : Net). 1 ≤ x.width) m.wires
+pub wires_wide : (m : ModuleText) → Each (λ (n : ModuleNet). (1 ≤ n.width) × (n.width ≤ 64)) (nets_of m) → Each (λ (x : Net). 1 ≤ x.width) m.wires
 wires_wide m h = mapped_wide wire_net m.wires (All-back _ (map port_net m.ports) (map wire_net m.wires) (All-front _ (map port_net m.ports ++ map wire_net m.wires) (map reg_net m.regs) h))
 
-pub regs_wide : (m : ModuleText) → Each (λ (n : FlatNet). (1 ≤ n.width) × (n.width ≤ 64)) (nets_of m) → Each (λ (x : RegNet). 1 ≤ x.width) m.regs
+pub regs_wide : (m : ModuleText) → Each (λ (n : ModuleNet). (1 ≤ n.width) × (n.width ≤ 64)) (nets_of m) → Each (λ (x : RegNet). 1 ≤ x.width) m.regs
 regs_wide m h = mapped_wide reg_net m.regs (All-back _ (map port_net m.ports ++ map wire_net m.wires) (map reg_net m.regs) h)
+
+-- and at most 64
+pub ports_within : (m : ModuleText) → Each (λ (n : ModuleNet). (1 ≤ n.width) × (n.width ≤ 64)) (nets_of m) → Each (λ (x : Port). (1 ≤ x.width) × (x.width ≤ 64)) m.ports
+ports_within m h = All-unmap (λ (n : ModuleNet). (1 ≤ n.width) × (n.width ≤ 64)) port_net m.ports (All-front _ (map port_net m.ports) (map wire_net m.wires) (All-front _ (map port_net m.ports ++ map wire_net m.wires) (map reg_net m.regs) h))

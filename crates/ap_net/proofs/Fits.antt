@@ -12,15 +12,19 @@ use Rattle.ap_net.specs.declared.cell.Cell.{Cell}
 use Rattle.ap_net.specs.declared.cell.Cell.TheVariants as cell
 use Rattle.ap_net.specs.declared.net.Role.{Role}
 use Rattle.ap_net.specs.declared.net.Role.TheVariants as role
-use Rattle.ap_net.specs.declared.net.FlatNet.{FlatNet}
+use Rattle.ap_net.specs.declared.net.ModuleNet.{ModuleNet}
 use Rattle.ap_net.specs.declared.net.Assign.{Assign}
 use Rattle.ap_net.specs.Cells.{two_value, cell_value, operands, widths_of, IsNet, FitsTwo, CellFits}
-use Rattle.ap_net.specs.Wiring.{IsSource, IsFree, IsWired, IsOrdered, Undriven}
-use Rattle.ap_net.specs.Flat.{Flat, Solves}
+use Rattle.ap_net.specs.declared.net.FlatNet.{FlatNet}
+use Rattle.ap_net.specs.Wiring.{IsSource, IsFree, Undriven}
+use Rattle.ap_net.specs.Flat.{Flat, Solves, plain_nets, equations}
 use Rattle.ap_net.specs.Sources.{Given, AlwaysSolvable}
 use Rattle.ap_net.proofs.Lists.{All-from, All-both}
-use Rattle.ap_net.proofs.Wired.{number-IsNet, declared}
+use Rattle.ap_net.proofs.Wired.{number-IsNet, operands-CellFits}
 use Rattle.ap_net.proofs.Solution.{value, driver, by_driver, by_role, by_net, All-driver, solution, solution_at, solution-given, solution-holds}
+
+pub length-plain : (nets : List FlatNet) → length (plain_nets nets) ≡ length nets
+length-plain nets = simp length-map
 
 bit_fits : (b : Bool) → (if b then 1 else 0) < 2 ^ 1
 bit_fits true = lit< tt
@@ -45,7 +49,7 @@ cat_fits a b i j p q =
     rw pow-add (omega arith)
 
 -- a cell over values that fit has a value that fits
-pub cell_fits : (read : ℕ → ℕ) (nets : List FlatNet) (w : ℕ) (c : Cell) → CellFits nets w c → Each (λ (o : Wire). read o.number < 2 ^ o.width) (operands c) → cell_value read w c < 2 ^ w
+pub cell_fits : (read : ℕ → ℕ) (nets : List ModuleNet) (w : ℕ) (c : Cell) → CellFits nets w c → Each (λ (o : Wire). read o.number < 2 ^ o.width) (operands c) → cell_value read w c < 2 ^ w
 cell_fits read nets w (cell.Const c) h v = h
 cell_fits read nets w (cell.Copy a) h v = subst (λ n. read a.number < 2 ^ n) h.1 v.0
 cell_fits read nets w (cell.Not a) h v = let z = pow_pos w in omega arith
@@ -55,72 +59,68 @@ cell_fits read nets w (cell.Cat a b) h v = subst (λ n. read a.number * 2 ^ b.wi
 cell_fits read nets w (cell.Slice a i j) h v = let z = pow_pos (i + 1 - j) in let e : i + 1 - j ≡ w = omega arith in subst (λ n. (read a.number / 2 ^ j) % 2 ^ (i + 1 - j) < 2 ^ n) e (omega arith)
 
 -- what a source is given fits, and 0 fits any other net
-given_fits : (nets : List FlatNet) (given : Given nets) (n w : ℕ) (read : ℕ → ℕ) → slice_get (widths_of nets) n ≡ Some w → by_net (slice_get nets n) (given.number n read) < 2 ^ w
+given_fits : (nets : List ModuleNet) (given : Given nets) (n w : ℕ) (read : ℕ → ℕ) → slice_get (widths_of nets) n ≡ Some w → by_net (slice_get nets n) (given.number n read) < 2 ^ w
 given_fits nets given n w read e =
     elim (slice_get nets n) as (λ r. slice_get nets n ≡ r → by_net r (given.number n read) < 2 ^ w) [
       | None ↦ λ at. pow_pos w
       | Some net ↦ λ at.
-          let wide : Some net.width ≡ Some w = sym (slice_get-map (λ (x : FlatNet). x.width) nets n ∙ ap (option_map (λ (x : FlatNet). x.width)) at) ∙ e in
+          let wide : Some net.width ≡ Some w = sym (slice_get-map (λ (x : ModuleNet). x.width) nets n ∙ ap (option_map (λ (x : ModuleNet). x.width)) at) ∙ e in
           let same : net.width ≡ w = cc in
           go net at same net.role refl
     ] refl
   where
-    go : (net : FlatNet) → slice_get nets n ≡ Some net → net.width ≡ w → (r : Role) → net.role ≡ r → by_role r (given.number n read) < 2 ^ w
+    go : (net : ModuleNet) → slice_get nets n ≡ Some net → net.width ≡ w → (r : Role) → net.role ≡ r → by_role r (given.number n read) < 2 ^ w
     go net at same role.Input f = subst (λ u. given.number n read < 2 ^ u) same (given.fits n net read at (subst IsSource (sym f) tt))
     go net at same role.Output f = pow_pos w
     go net at same role.Plain f = pow_pos w
     go net at same (role.Register reset) f = subst (λ u. given.number n read < 2 ^ u) same (given.fits n net read at (subst IsSource (sym f) tt))
 
 -- every value on the way fits
-value_fits : (d : Flat) → IsWired d.nets d.assigns d.nexts → (given : Given d.nets) → (fuel n w : ℕ) → slice_get (widths_of d.nets) n ≡ Some w → value d.nets d.assigns given fuel n < 2 ^ w
-value_fits d h given zero n w e = pow_pos w
-value_fits d h given (suc fuel) n w e =
-    elim (driver d.assigns n) as (λ r. driver d.assigns n ≡ r → by_driver r (value d.nets d.assigns given fuel) (by_net (slice_get d.nets n) (given.number n (value d.nets d.assigns given fuel))) < 2 ^ w) [
-      | None ↦ λ _. given_fits d.nets given n w (value d.nets d.assigns given fuel) e
+value_fits : (nets : List ModuleNet) (assigns : List Assign) → Each (λ (a : Assign). IsNet nets a.to) assigns → Each (λ (a : Assign). CellFits nets a.to.width a.cell) assigns → (given : Given nets)
+    → (fuel n w : ℕ) → slice_get (widths_of nets) n ≡ Some w → value nets assigns given fuel n < 2 ^ w
+value_fits nets assigns results cells given zero n w e = pow_pos w
+value_fits nets assigns results cells given (suc fuel) n w e =
+    elim (driver assigns n) as (λ r. driver assigns n ≡ r → by_driver r (value nets assigns given fuel) (by_net (slice_get nets n) (given.number n (value nets assigns given fuel))) < 2 ^ w) [
+      | None ↦ λ _. given_fits nets given n w (value nets assigns given fuel) e
       | Some a ↦ λ f.
-          let net = All-driver (λ (x : Assign). IsNet d.nets x.to) d.assigns n a h.results f in
-          let fits = All-driver (λ (x : Assign). CellFits d.nets x.to.width x.cell) d.assigns n a h.cells f in
-          let nets = All-driver (λ (x : Assign). Each (IsNet d.nets) (operands x.cell)) d.assigns n a (declared d.nets d.assigns d.nexts h) f in
-          let here : slice_get (widths_of d.nets) n ≡ Some a.to.width = subst (λ k. slice_get (widths_of d.nets) k ≡ Some a.to.width) net.1 net.0.declared in
+          let net = All-driver (λ (x : Assign). IsNet nets x.to) assigns n a results f in
+          let fits = All-driver (λ (x : Assign). CellFits nets x.to.width x.cell) assigns n a cells f in
+          let operand = operands-CellFits nets a.to.width a.cell fits.0 in
+          let here : slice_get (widths_of nets) n ≡ Some a.to.width = subst (λ k. slice_get (widths_of nets) k ≡ Some a.to.width) net.1 net.0.declared in
           let same : a.to.width ≡ w = cc in
-          subst (λ u. cell_value (value d.nets d.assigns given fuel) a.to.width a.cell < 2 ^ u) same
-          (cell_fits (value d.nets d.assigns given fuel) d.nets a.to.width a.cell fits.0
-          (All-from (IsNet d.nets) (λ (o : Wire). value d.nets d.assigns given fuel o.number < 2 ^ o.width) (λ o p. value_fits d h given fuel o.number o.width p.declared) (operands a.cell) nets.0))
+          subst (λ u. cell_value (value nets assigns given fuel) a.to.width a.cell < 2 ^ u) same
+          (cell_fits (value nets assigns given fuel) nets a.to.width a.cell fits.0
+          (All-from (IsNet nets) (λ (o : Wire). value nets assigns given fuel o.number < 2 ^ o.width) (λ o p. value_fits nets assigns results cells given fuel o.number o.width p.declared) (operands a.cell) operand))
     ] refl
 
 pub always_solvable : AlwaysSolvable
 always_solvable d h given order =
-    let count : ℕ = length d.nets in
-    let v : List ℕ = solution d.nets d.assigns given order.rank order.ranked order.looks in
-    let inside : Each (λ (a : Assign). (a.to.number < count) × Each (λ (o : Wire). o.number < count) (operands a.cell)) d.assigns =
-    All-both (λ (a : Assign). IsNet d.nets a.to) (λ (a : Assign). Each (IsNet d.nets) (operands a.cell)) (λ (a : Assign). (a.to.number < count) × Each (λ (o : Wire). o.number < count) (operands a.cell))
-    (λ a p q. (number-IsNet d.nets a.to p, All-from (IsNet d.nets) (λ (o : Wire). o.number < count) (λ o r. number-IsNet d.nets o r) (operands a.cell) q)) d.assigns h.results (declared d.nets d.assigns d.nexts h) in (
+    let nets : List ModuleNet = plain_nets d.nets in
+    let count : ℕ = length nets in
+    let v : List ℕ = solution nets (equations d) given order.rank order.ranked order.looks in
+    let inside : Each (λ (a : Assign). (a.to.number < count) × Each (λ (o : Wire). o.number < count) (operands a.cell)) (equations d) =
+    All-both (λ (a : Assign). IsNet nets a.to) (λ (a : Assign). CellFits nets a.to.width a.cell) (λ (a : Assign). (a.to.number < count) × Each (λ (o : Wire). o.number < count) (operands a.cell))
+    (λ a p q. (number-IsNet nets a.to p, All-from (IsNet nets) (λ (o : Wire). o.number < count) (λ o r. number-IsNet nets o r) (operands a.cell) (operands-CellFits nets a.to.width a.cell q))) (equations d) h.results h.cells in (
       v,
       record {
-        long = length-map-range_with_len (λ n. value d.nets d.assigns given (order.rank n + 1) n) 0 count;
+        long = length-map-range_with_len (λ n. value nets (equations d) given (order.rank n + 1) n) 0 count ∙ length-plain d.nets;
         settles = record {
           fits = λ n w e.
-              let lt : n < length (widths_of d.nets) = slice_get_within (widths_of d.nets) n w e in
+              let lt : n < length (widths_of nets) = slice_get_within (widths_of nets) n w e in
               let lt' : n < count = rw length-map at lt in
-              let at : slice_index v n ≡ value d.nets d.assigns given (order.rank n + 1) n = solution_at d.nets d.assigns given order.rank order.ranked order.looks (order.rank n + 1) n lt' (omega arith) in
-              rw at (value_fits d h given (order.rank n + 1) n w e);
-          holds = solution-holds d.nets d.assigns given order.rank order.ranked order.looks h.once inside;
+              let at : slice_index v n ≡ value nets (equations d) given (order.rank n + 1) n = solution_at nets (equations d) given order.rank order.ranked order.looks (order.rank n + 1) n lt' (omega arith) in
+              rw at (value_fits nets (equations d) h.results h.cells given (order.rank n + 1) n w e);
+          holds = solution-holds nets (equations d) given order.rank order.ranked order.looks h.once inside;
         };
       },
       λ n net at source.
-          let lt : n < count = slice_get_within d.nets n net at in
-          let none : Undriven d.assigns n = All-from (λ (a : Assign). IsFree d.nets a.to.number) (λ (a : Assign). a.to.number ≢ n) (λ a f e. f net (subst (λ k. slice_get d.nets k ≡ Some net) (sym e) at) source) d.assigns h.free in
-          solution-given d.nets d.assigns given order.rank order.ranked order.looks n net at source lt none,
+          let lt : n < count = slice_get_within nets n net at in
+          let none : Undriven (equations d) n = All-from (λ (a : Assign). IsFree nets a.to.number) (λ (a : Assign). a.to.number ≢ n) (λ a f e. f net (subst (λ k. slice_get nets k ≡ Some net) (sym e) at) source) (equations d) h.free in
+          solution-given nets (equations d) given order.rank order.ranked order.looks n net at source lt none,
     )
 
 -- numbers that look at nothing
-abbrev pub constant : (nets : List FlatNet) (numbers : ℕ → ℕ) → ((n : ℕ) (net : FlatNet) → slice_get nets n ≡ Some net → IsSource net.role → numbers n < 2 ^ net.width) → Given nets
+abbrev pub constant : (nets : List ModuleNet) (numbers : ℕ → ℕ) → ((n : ℕ) (net : ModuleNet) → slice_get nets n ≡ Some net → IsSource net.role → numbers n < 2 ^ net.width) → Given nets
 constant nets numbers fits = record { number = λ n read. numbers n; fits = λ n net read at source. fits n net at source }
-
--- whatever fixed numbers inputs and registers have, there is a solution
-pub solvable_at : (f : Flat) → IsWired f.nets f.assigns f.nexts → IsOrdered f.assigns → (numbers : ℕ → ℕ)
-    → ((n : ℕ) (net : FlatNet) → slice_get f.nets n ≡ Some net → IsSource net.role → numbers n < 2 ^ net.width)
-    → (v : List ℕ) × Solves f v × ((n : ℕ) (net : FlatNet) → slice_get f.nets n ≡ Some net → IsSource net.role → slice_index v n ≡ numbers n)
-solvable_at f h order numbers fits = always_solvable f h (constant f.nets numbers fits) (record { rank = order.0; ranked = order.1; looks = λ n net a b at source agree. refl })
 
 pub ruleset solvable = (always_solvable)

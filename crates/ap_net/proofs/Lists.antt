@@ -1,5 +1,5 @@
-use Rattle.std.proofs.Common.{◌≡◌, ℕ, ◌<◌, suc, zero, List, [], ◌∷◌, ◌++◌, length, Some, refl, arith}
-use Rattle.std.specs.Prelude.{slice_get}
+use Rattle.std.proofs.Common.{◌≡◌, ℕ, ◌+◌, ◌<◌, suc, zero, List, [], ◌∷◌, ◌++◌, length, map, Some, refl, sym, ap, inl, inr, ⊎_elim, arith, zero-add}
+use Rattle.std.specs.Prelude.{◌⊎◌, slice_get}
 use Rattle.std.specs.List.{AllByRecursion as Each}
 
 -- what holds of each of two lists holds of each of both, and back
@@ -45,3 +45,31 @@ get_end (y ∷ xs) x = get_end xs x
 
 pub some_same : {X : Type 0} {x y : X} → Some x ≡ Some y → x ≡ y
 some_same e = cc
+
+-- what stands behind a list
+pub get_right : {X : Type 0} (xs ys : List X) (i : ℕ) → slice_get (xs ++ ys) (length xs + i) ≡ slice_get ys i
+get_right [] ys i = rw (zero-add i) refl
+get_right (x ∷ xs) ys i = let next : suc (length xs) + i ≡ suc (length xs + i) = omega arith in rw next (get_right xs ys i)
+
+-- an element of two lists joined is one of the first or one of the second
+pub get_either : {X : Type 0} (xs ys : List X) (m : ℕ) (x : X) → slice_get (xs ++ ys) m ≡ Some x → (slice_get xs m ≡ Some x) ⊎ ((i : ℕ) × (m ≡ length xs + i) × (slice_get ys i ≡ Some x))
+get_either [] ys m x at = inr (m, sym (zero-add m), at)
+get_either (y ∷ xs) ys zero x at = inl at
+get_either (y ∷ xs) ys (suc m) x at = ⊎_elim inl (λ q. inr (q.0, (let e : m ≡ length xs + q.0 = q.1 in let next : suc m ≡ suc (length xs) + q.0 = omega arith in next), q.2)) (get_either xs ys m x at)
+
+-- what holds at each index holds of each element
+pub Each-at : {X : Type 0} (P : X → Type 0) (xs : List X) → ((i : ℕ) (x : X) → slice_get xs i ≡ Some x → P x) → Each P xs
+Each-at P [] f = tt
+Each-at P (x ∷ xs) f = (f zero x refl, Each-at P xs (λ i y h. f (suc i) y h))
+
+pub All-map : {X Y : Type 0} (P : Y → Type 0) (f : X → Y) (xs : List X) → Each (λ x. P (f x)) xs → Each P (map f xs)
+All-map P f [] h = tt
+All-map P f (x ∷ xs) h = (h.0, All-map P f xs h.1)
+
+pub All-unmap : {X Y : Type 0} (P : Y → Type 0) (f : X → Y) (xs : List X) → Each P (map f xs) → Each (λ x. P (f x)) xs
+All-unmap P f [] h = tt
+All-unmap P f (x ∷ xs) h = (h.0, All-unmap P f xs h.1)
+
+pub map-map : {X Y Z : Type 0} (f : X → Y) (g : Y → Z) (xs : List X) → map g (map f xs) ≡ map (λ x. g (f x)) xs
+map-map f g [] = refl
+map-map f g (x ∷ xs) = ap (λ l. g (f x) ∷ l) (map-map f g xs)

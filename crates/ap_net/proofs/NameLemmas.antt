@@ -1,4 +1,4 @@
-use Rattle.std.proofs.Common.{◌≡◌, ◌≢◌, ℕ, ◌+◌, ◌%◌, ◌<◌, ◌≤◌, ◌^◌, ◌&&◌, Bool, true, false, List, [], ◌∷◌, length, refl, sym, ap, ◌∙◌, arith, zero, suc}
+use Rattle.std.proofs.Common.{◌≡◌, ◌≢◌, ℕ, ◌+◌, ◌%◌, ◌<◌, ◌≤◌, ◌^◌, ◌&&◌, Bool, true, false, List, [], ◌∷◌, ◌++◌, length, length-append, refl, sym, ap, ◌∙◌, arith, zero, suc}
 use Rattle.std.specs.Prelude.{nat_le, not, IsTrue, ◌==◌}
 use Rattle.std.specs.List.{list_all, list_any}
 use Rattle.std.specs.Str.{IsAscii, IsUtf8, bytes_eq}
@@ -67,3 +67,13 @@ is_other_letter (b ∷ bs) = not (b == 110)
 -- such a name isn't n and a number
 pub IsNotNumbered-other : (name : List ℕ) → IsTrue (is_other_letter name) → IsNotNumbered name
 IsNotNumbered-other name h k small e = let clash : is_other_letter (numbered k) ≡ true = sym (ap is_other_letter e) ∙ h in cc
+
+-- a name that is k_, then bytes of names, then a number
+pub IsNetName-numbered_kind : (middle : List ℕ) (k : ℕ) → IsTrue (list_all is_name_byte middle) → IsTrue (nat_le (length middle) 70) → k < 2 ^ 64 → IsNetName (107 ∷ 95 ∷ middle ++ decimal k)
+IsNetName-numbered_kind middle k bytes few small =
+    let short : length (decimal k) ≤ 20 = length-decimal-le 20 k (omega arith) (omega arith) small in
+    let long = length-append middle (decimal k) in
+    let le : length middle ≤ 70 = grind (arith, nat_tests, few) in
+    let fits : nat_le (suc (suc (length (middle ++ decimal k)))) 100 ≡ true = grind (arith, nat_tests) in
+    let all : list_all is_name_byte (middle ++ decimal k) ≡ true = list_all-append is_name_byte middle (decimal k) ∙ rw (bytes, decimal_allowed k small) refl in
+    rw (all, fits) refl

@@ -4,14 +4,14 @@ use Rattle.std.specs.List.{filter}
 use Rattle.std.proofs.lemmas.List.Sums.{sum_by-cons, length-filter}
 use Rattle.ap_net.specs.declared.net.Role.{Role}
 use Rattle.ap_net.specs.declared.net.Role.TheVariants as role
-use Rattle.ap_net.specs.declared.net.FlatNet.{FlatNet}
+use Rattle.ap_net.specs.declared.net.ModuleNet.{ModuleNet}
 use Rattle.ap_net.specs.Draft.{is_plain, is_wire, wire_count}
 use Rattle.ap_net.specs.Modules.{port_net, wire_net, reg_net, ports_among, wires_among, regs_among}
 use Rattle.ap_net.specs.Places.{has_port_role, has_register_role, is_port, is_register, port_count, register_count, number_by, place_by}
-use Rattle.ap_net.proofs.Lists.{get_left}
+use Rattle.ap_net.proofs.Lists.{get_left, get_right, get_either}
 
 module _ {X : Type 0} (p : X → Bool) where
-  count_cons : (x : X) (xs : List X) → count_by p (x ∷ xs) ≡ (if p x then 1 else 0) + count_by p xs
+  pub count_cons : (x : X) (xs : List X) → count_by p (x ∷ xs) ≡ (if p x then 1 else 0) + count_by p xs
   count_cons x xs = sum_by-cons (λ y. if p y then 1 else 0) x xs
 
   -- an element that passes stands in the filter after those that pass before it
@@ -74,18 +74,8 @@ module _ {X : Type 0} (p : X → Bool) where
       go later true e (suc m) at = let next : 1 + m ≡ suc m = omega arith in let one : (if p y then 1 else 0) ≡ 1 = rw e refl in subst (λ i. Passes k (y ∷ xs) i j) next (one_on k y xs m j 1 one (later m at))
       go later false e m at = let none : (if p y then 1 else 0) ≡ 0 = rw e refl in subst (λ i. Passes k (y ∷ xs) i j) (zero-add m) (one_on k y xs m j 0 none (later m at))
 
-pub get_right : {X : Type 0} (xs ys : List X) (i : ℕ) → slice_get (xs ++ ys) (length xs + i) ≡ slice_get ys i
-get_right [] ys i = rw (zero-add i) refl
-get_right (x ∷ xs) ys i = let next : suc (length xs) + i ≡ suc (length xs + i) = omega arith in rw next (get_right xs ys i)
-
--- an element of two lists joined is one of the first or one of the second
-get_either : {X : Type 0} (xs ys : List X) (m : ℕ) (x : X) → slice_get (xs ++ ys) m ≡ Some x → (slice_get xs m ≡ Some x) ⊎ ((i : ℕ) × (m ≡ length xs + i) × (slice_get ys i ≡ Some x))
-get_either [] ys m x at = inr (m, sym (zero-add m), at)
-get_either (y ∷ xs) ys zero x at = inl at
-get_either (y ∷ xs) ys (suc m) x at = ⊎_elim inl (λ q. inr (q.0, (let e : m ≡ length xs + q.0 = q.1 in let next : suc m ≡ suc (length xs) + q.0 = omega arith in next), q.2)) (get_either xs ys m x at)
-
 -- the kinds of nets, as the finished module lists them
-pub ports_filter : (nets : List FlatNet) → map port_net (ports_among nets) ≡ filter is_port nets
+pub ports_filter : (nets : List ModuleNet) → map port_net (ports_among nets) ≡ filter is_port nets
 ports_filter [] = refl
 ports_filter (net ∷ nets) = go (ports_filter nets) net.name net.width net.role
   where
@@ -95,7 +85,7 @@ ports_filter (net ∷ nets) = go (ports_filter nets) net.name net.width net.role
     go later name width role.Plain = later
     go later name width (role.Register reset) = later
 
-pub wires_filter : (nets : List FlatNet) → map wire_net (wires_among nets) ≡ filter is_wire nets
+pub wires_filter : (nets : List ModuleNet) → map wire_net (wires_among nets) ≡ filter is_wire nets
 wires_filter [] = refl
 wires_filter (net ∷ nets) = go (wires_filter nets) net.name net.width net.role
   where
@@ -105,7 +95,7 @@ wires_filter (net ∷ nets) = go (wires_filter nets) net.name net.width net.role
     go later name width role.Plain = ap (λ l. record { name = name; width = width; role = role.Plain } ∷ l) later
     go later name width (role.Register reset) = later
 
-pub regs_filter : (nets : List FlatNet) → map reg_net (regs_among nets) ≡ filter is_register nets
+pub regs_filter : (nets : List ModuleNet) → map reg_net (regs_among nets) ≡ filter is_register nets
 regs_filter [] = refl
 regs_filter (net ∷ nets) = go (regs_filter nets) net.name net.width net.role
   where
@@ -116,18 +106,18 @@ regs_filter (net ∷ nets) = go (regs_filter nets) net.name net.width net.role
     go later name width (role.Register reset) = ap (λ l. record { name = name; width = width; role = role.Register reset } ∷ l) later
 
 -- the nets by kind
-abbrev pub sorted : List FlatNet → List FlatNet
+abbrev pub sorted : List ModuleNet → List ModuleNet
 sorted nets = filter is_port nets ++ filter is_wire nets ++ filter is_register nets
 
 -- and their numbers in the order of declaration
-abbrev pub origins : List FlatNet → List ℕ
+abbrev pub origins : List ModuleNet → List ℕ
 origins nets = positions is_port 0 nets ++ positions is_wire 0 nets ++ positions is_register 0 nets
 
-pub sorted-among : (nets : List FlatNet) → map port_net (ports_among nets) ++ map wire_net (wires_among nets) ++ map reg_net (regs_among nets) ≡ sorted nets
+pub sorted-among : (nets : List ModuleNet) → map port_net (ports_among nets) ++ map wire_net (wires_among nets) ++ map reg_net (regs_among nets) ≡ sorted nets
 sorted-among nets = (λ i. ports_filter nets i ++ wires_filter nets i ++ regs_filter nets i)
 
 -- what stands in the list of its own kind stands at its place in the three lists joined
-in_three : {Y : Type 0} (ports wires regs : List Y) (nets : List FlatNet) (n : ℕ) (y : Y) → length ports ≡ port_count nets → length wires ≡ wire_count nets → (r : Role)
+in_three : {Y : Type 0} (ports wires regs : List Y) (nets : List ModuleNet) (n : ℕ) (y : Y) → length ports ≡ port_count nets → length wires ≡ wire_count nets → (r : Role)
     → (has_port_role r ≡ true → slice_get ports (port_count (take n nets)) ≡ Some y) → (is_plain r ≡ true → slice_get wires (wire_count (take n nets)) ≡ Some y)
     → (has_register_role r ≡ true → slice_get regs (register_count (take n nets)) ≡ Some y) → slice_get (ports ++ wires ++ regs) (place_by r nets n) ≡ Some y
 in_three ports wires regs nets n y lp lw r p w q = go r p w q
@@ -149,17 +139,17 @@ in_three ports wires regs nets n y lp lw r p w q = go r p w q
     go (role.Register reset) p w q = third (register_count (take n nets)) (q refl)
 
 -- a net stands at its place
-pub sorted_at : (nets : List FlatNet) (n : ℕ) (net : FlatNet) → slice_get nets n ≡ Some net → slice_get (sorted nets) (place_by net.role nets n) ≡ Some net
+pub sorted_at : (nets : List ModuleNet) (n : ℕ) (net : ModuleNet) → slice_get nets n ≡ Some net → slice_get (sorted nets) (place_by net.role nets n) ≡ Some net
 sorted_at nets n net at = in_three (filter is_port nets) (filter is_wire nets) (filter is_register nets) nets n net (length-filter is_port nets) (length-filter is_wire nets) net.role
     (nth_filter is_port nets n net at) (nth_filter is_wire nets n net at) (nth_filter is_register nets n net at)
 
 -- and its number of declaration stands there too
-pub origin_at : (nets : List FlatNet) (n : ℕ) (net : FlatNet) → slice_get nets n ≡ Some net → slice_get (origins nets) (place_by net.role nets n) ≡ Some n
+pub origin_at : (nets : List ModuleNet) (n : ℕ) (net : ModuleNet) → slice_get nets n ≡ Some net → slice_get (origins nets) (place_by net.role nets n) ≡ Some n
 origin_at nets n net at =
     in_three (positions is_port 0 nets) (positions is_wire 0 nets) (positions is_register 0 nets) nets n n (length-positions is_port 0 nets ∙ length-filter is_port nets) (length-positions is_wire 0 nets ∙ length-filter is_wire nets) net.role
     (λ h. nth_position is_port 0 nets n net at h ∙ ap Some (zero-add n)) (λ h. nth_position is_wire 0 nets n net at h ∙ ap Some (zero-add n)) (λ h. nth_position is_register 0 nets n net at h ∙ ap Some (zero-add n))
 
-pub length-origins : (nets : List FlatNet) → length (origins nets) ≡ length (sorted nets)
+pub length-origins : (nets : List ModuleNet) → length (origins nets) ≡ length (sorted nets)
 length-origins nets =
     length-append (positions is_port 0 nets ++ positions is_wire 0 nets) (positions is_register 0 nets)
     ∙ (λ i. length-append (positions is_port 0 nets) (positions is_wire 0 nets) i + length-positions is_register 0 nets i)
@@ -186,17 +176,17 @@ number_register role.Plain p w q h = cc
 number_register (role.Register reset) p w q h = refl
 
 -- what stands at a number of the finished module: the net that has this place
-pub record Seat (nets : List FlatNet) (m j : ℕ) : Type 0 where
-  pub net : FlatNet
+pub record Seat (nets : List ModuleNet) (m j : ℕ) : Type 0 where
+  pub net : ModuleNet
   pub at : slice_get nets j ≡ Some net
   pub place : place_by net.role nets j ≡ m
 
-seat : {p : FlatNet → Bool} (nets : List FlatNet) (m i j base : ℕ) (q : Passes p 0 nets i j) → m ≡ base + i → place_by (q.x).role nets q.n ≡ base + count_by p (take q.n nets) → Seat nets m j
+seat : {p : ModuleNet → Bool} (nets : List ModuleNet) (m i j base : ℕ) (q : Passes p 0 nets i j) → m ≡ base + i → place_by (q.x).role nets q.n ≡ base + count_by p (take q.n nets) → Seat nets m j
 seat nets m i j base q e f =
     let same : j ≡ q.n = q.place ∙ zero-add q.n in
     record { net = q.x; at = ap (slice_get nets) same ∙ q.at; place = ap (place_by (q.x).role nets) same ∙ f ∙ ap (λ k. base + k) q.before ∙ sym e }
 
-pub seat_of : (nets : List FlatNet) (m j : ℕ) → slice_get (origins nets) m ≡ Some j → Seat nets m j
+pub seat_of : (nets : List ModuleNet) (m j : ℕ) → slice_get (origins nets) m ≡ Some j → Seat nets m j
 seat_of nets m j at =
     ⊎_elim
     (λ front. ⊎_elim

@@ -1,20 +1,22 @@
-use Rattle.std.proofs.Common.{◌≡◌, ◌≢◌, ℕ, ◌<◌, ◌≤◌, ◌^◌, suc, zero, List, [], ◌∷◌, length, map, Some, refl, sym, ap, subst, ◌∙◌, arith}
+use Rattle.std.proofs.Common.{◌≡◌, ◌≢◌, ℕ, ◌<◌, ◌≤◌, ◌^◌, suc, zero, Bool, true, false, List, [], ◌∷◌, ◌++◌, length, map, Some, refl, sym, ap, subst, ◌∙◌, arith}
 use Rattle.std.specs.Prelude.{slice_get, slice_index, codes, option_map}
 use Rattle.std.specs.List.{AllByRecursion as Each}
-use Rattle.std.proofs.lemmas.List.{length-map}
+use Rattle.std.proofs.lemmas.List.{length-map, map-append}
 use Rattle.std.proofs.lemmas.Option.{slice_get_within, slice_get-map, get_or_from_slice_get}
 use Rattle.ap_net.specs.declared.cell.Wire.{Wire}
 use Rattle.ap_net.specs.declared.cell.Cell.{Cell}
 use Rattle.ap_net.specs.declared.cell.Cell.TheVariants as cell
-use Rattle.ap_net.specs.declared.net.FlatNet.{FlatNet}
+use Rattle.ap_net.specs.declared.net.ModuleNet.{ModuleNet}
 use Rattle.ap_net.specs.declared.net.Assign.{Assign}
 use Rattle.ap_net.specs.declared.net.Next.{Next}
-use Rattle.ap_net.specs.Names.{IsNetName, AreDistinct}
+use Rattle.ap_net.specs.declared.net.Instance.{Instance}
+use Rattle.ap_net.specs.Names.{IsNetName, IsNew, AreDistinct}
 use Rattle.ap_net.specs.Cells.{operands, widths_of, IsNet, CellFits, cell_value}
-use Rattle.ap_net.specs.Wiring.{reset_of, IsFree, DrivenOnce, ClockedOnce, NextFits, IsWired, IsDriven, Holds, Settles, Ranked}
-use Rattle.ap_net.specs.Modules.{placed, cell_placed, assign_placed, next_placed}
+use Rattle.ap_net.specs.Wiring.{reset_of, IsFree, Undriven, AreApart, driven_among, driven_by, names_taken, taken_names, DrivenOnce, ClockedOnce, NextFits, IsWired, IsConnected, IsDriven, Holds, Settles, Ranked}
+use Rattle.ap_net.specs.Modules.{placed, cell_placed, assign_placed, next_placed, instance_placed}
 use Rattle.ap_net.specs.Places.{place_by}
-use Rattle.ap_net.proofs.Lists.{All-from, All-both, All-at, some_same}
+use Rattle.ap_net.proofs.Lists.{All-from, All-both, All-at, All-front, All-back, All-join, All-map, All-unmap, Each-at, map-map, some_same}
+use Rattle.ap_net.proofs.Connected.{driven_within}
 use Rattle.ap_net.proofs.Wired.{number-IsNet, declared}
 use Rattle.ap_net.proofs.Numbering.{sorted, origins, sorted_at, origin_at, length-origins, Seat, seat_of}
 
@@ -25,14 +27,14 @@ some_within (x ∷ xs) zero lt = (x, refl)
 some_within (x ∷ xs) (suc n) lt = some_within xs n (omega arith)
 
 -- news has the same nets as olds under other numbers
-pub record IsRenumbering (olds news : List FlatNet) (place back : ℕ → ℕ) : Type 0 where
+pub record IsRenumbering (olds news : List ModuleNet) (place back : ℕ → ℕ) : Type 0 where
   pub nets : (n : ℕ) → n < length olds → slice_get news (place n) ≡ slice_get olds n
   pub returns : (n : ℕ) → n < length olds → back (place n) ≡ n
   pub within : (m : ℕ) → m < length news → back m < length olds
   pub covers : (m : ℕ) → m < length news → place (back m) ≡ m
 
 -- the nets by kind are such
-pub sorted-IsRenumbering : (nets : List FlatNet) (places : List ℕ) → ((n : ℕ) (net : FlatNet) → slice_get nets n ≡ Some net → slice_index places n ≡ place_by net.role nets n)
+pub sorted-IsRenumbering : (nets : List ModuleNet) (places : List ℕ) → ((n : ℕ) (net : ModuleNet) → slice_get nets n ≡ Some net → slice_index places n ≡ place_by net.role nets n)
     → IsRenumbering nets (sorted nets) (slice_index places) (slice_index (origins nets))
 sorted-IsRenumbering nets places each = record {
   nets = λ n lt. let s = some_within nets n lt in ap (slice_get (sorted nets)) (each n s.0 s.1) ∙ sorted_at nets n s.0 s.1 ∙ sym s.1;
@@ -51,42 +53,51 @@ sorted-IsRenumbering nets places each = record {
       ap (slice_index places) (get_or_from_slice_get (origins nets) m s.0 0 s.1) ∙ each s.0 q.net q.at ∙ q.place;
 }
 
--- what holds at each index holds of each element
-Each-at : {X : Type 0} (P : X → Type 0) (xs : List X) → ((i : ℕ) (x : X) → slice_get xs i ≡ Some x → P x) → Each P xs
-Each-at P [] f = tt
-Each-at P (x ∷ xs) f = (f zero x refl, Each-at P xs (λ i y h. f (suc i) y h))
-
-All-map : {X Y : Type 0} (P : Y → Type 0) (f : X → Y) (xs : List X) → Each (λ x. P (f x)) xs → Each P (map f xs)
-All-map P f [] h = tt
-All-map P f (x ∷ xs) h = (h.0, All-map P f xs h.1)
-
-pub All-unmap : {X Y : Type 0} (P : Y → Type 0) (f : X → Y) (xs : List X) → Each P (map f xs) → Each (λ x. P (f x)) xs
-All-unmap P f [] h = tt
-All-unmap P f (x ∷ xs) h = (h.0, All-unmap P f xs h.1)
-
 -- nets of distinct names stand at one place each
-pub names_differ : (nets : List FlatNet) (i j : ℕ) (a b : FlatNet) → AreDistinct (map (λ (n : FlatNet). n.name) nets) → slice_get nets i ≡ Some a → slice_get nets j ≡ Some b → a.name ≡ b.name → i ≡ j
+pub names_differ : (nets : List ModuleNet) (i j : ℕ) (a b : ModuleNet) → AreDistinct (map (λ (n : ModuleNet). n.name) nets) → slice_get nets i ≡ Some a → slice_get nets j ≡ Some b → a.name ≡ b.name → i ≡ j
 names_differ [] i j a b d p q e = cc
 names_differ (net ∷ nets) zero zero a b d p q e = refl
 names_differ (net ∷ nets) zero (suc j) a b d p q e =
-    let other = All-at (λ (x : FlatNet). x.name ≢ net.name) nets j b (All-unmap (λ name. name ≢ net.name) (λ (x : FlatNet). x.name) nets d.0) q in
+    let other = All-at (λ (x : ModuleNet). x.name ≢ net.name) nets j b (All-unmap (λ name. name ≢ net.name) (λ (x : ModuleNet). x.name) nets d.0) q in
     let same : net ≡ a = some_same p in
-    absurd (other (sym e ∙ ap (λ (x : FlatNet). x.name) (sym same)))
+    absurd (other (sym e ∙ ap (λ (x : ModuleNet). x.name) (sym same)))
 names_differ (net ∷ nets) (suc i) zero a b d p q e =
-    let other = All-at (λ (x : FlatNet). x.name ≢ net.name) nets i a (All-unmap (λ name. name ≢ net.name) (λ (x : FlatNet). x.name) nets d.0) p in
+    let other = All-at (λ (x : ModuleNet). x.name ≢ net.name) nets i a (All-unmap (λ name. name ≢ net.name) (λ (x : ModuleNet). x.name) nets d.0) p in
     let same : net ≡ b = some_same q in
-    absurd (other (e ∙ ap (λ (x : FlatNet). x.name) (sym same)))
+    absurd (other (e ∙ ap (λ (x : ModuleNet). x.name) (sym same)))
 names_differ (net ∷ nets) (suc i) (suc j) a b d p q e = ap suc (names_differ nets i j a b d.1 p q e)
 
 -- and back: where equal names stand at one place, names are distinct
-distinct_names : (nets : List FlatNet) → ((i j : ℕ) (a b : FlatNet) → slice_get nets i ≡ Some a → slice_get nets j ≡ Some b → a.name ≡ b.name → i ≡ j) → AreDistinct (map (λ (n : FlatNet). n.name) nets)
+distinct_names : (nets : List ModuleNet) → ((i j : ℕ) (a b : ModuleNet) → slice_get nets i ≡ Some a → slice_get nets j ≡ Some b → a.name ≡ b.name → i ≡ j) → AreDistinct (map (λ (n : ModuleNet). n.name) nets)
 distinct_names [] f = tt
 distinct_names (net ∷ nets) f = (
-  All-map (λ name. name ≢ net.name) (λ (x : FlatNet). x.name) nets (Each-at (λ (x : FlatNet). x.name ≢ net.name) nets (λ i x at e. let clash : suc i ≡ 0 = f (suc i) zero x net at refl e in absurd (omega arith))),
+  All-map (λ name. name ≢ net.name) (λ (x : ModuleNet). x.name) nets (Each-at (λ (x : ModuleNet). x.name ≢ net.name) nets (λ i x at e. let clash : suc i ≡ 0 = f (suc i) zero x net at refl e in absurd (omega arith))),
   distinct_names nets (λ i j a b p q e. let next : suc i ≡ suc j = f (suc i) (suc j) a b p q e in let same : i ≡ j = omega arith in same),
 )
 
-operands-placed : (place : ℕ → ℕ) (c : Cell) → operands (cell_placed place c) ≡ map (placed place) (operands c)
+-- the nets that instances drive, under other numbers
+driven_among-placed : (place : ℕ → ℕ) (drives : List Bool) (nets : List Wire) → driven_among drives (map (placed place) nets) ≡ map place (driven_among drives nets)
+driven_among-placed place [] nets = refl
+driven_among-placed place (d ∷ drives) [] = refl
+driven_among-placed place (true ∷ drives) (w ∷ nets) = ap (λ l. place w.number ∷ l) (driven_among-placed place drives nets)
+driven_among-placed place (false ∷ drives) (w ∷ nets) = driven_among-placed place drives nets
+
+pub driven_by-placed : (place : ℕ → ℕ) (instances : List Instance) → driven_by (map (instance_placed place) instances) ≡ map place (driven_by instances)
+driven_by-placed place [] = refl
+driven_by-placed place (i ∷ instances) = (λ j. driven_among-placed place i.drives i.nets j ++ driven_by-placed place instances j) ∙ sym (map-append place (driven_among i.drives i.nets) (driven_by instances))
+
+-- names of two lists, all distinct
+distinct_cross : (xs ys : List (List ℕ)) → AreDistinct (xs ++ ys) → AreDistinct xs × Each (λ x. IsNew x ys) xs
+distinct_cross [] ys h = (tt, tt)
+distinct_cross (x ∷ xs) ys h =
+    let rest = distinct_cross xs ys h.1 in
+    ((All-front (λ other. other ≢ x) xs ys h.0, rest.0), (All-back (λ other. other ≢ x) xs ys h.0, rest.1))
+
+distinct_join : (xs ys : List (List ℕ)) → AreDistinct xs → AreDistinct ys → Each (λ x. IsNew x ys) xs → AreDistinct (xs ++ ys)
+distinct_join [] ys p q h = q
+distinct_join (x ∷ xs) ys p q h = (All-join (λ other. other ≢ x) xs ys p.0 h.0, distinct_join xs ys p.1 q h.1)
+
+pub operands-placed : (place : ℕ → ℕ) (c : Cell) → operands (cell_placed place c) ≡ map (placed place) (operands c)
 operands-placed place (cell.Const c) = refl
 operands-placed place (cell.Copy a) = refl
 operands-placed place (cell.Not a) = refl
@@ -95,7 +106,7 @@ operands-placed place (cell.Choose s a b) = refl
 operands-placed place (cell.Cat a b) = refl
 operands-placed place (cell.Slice a h l) = refl
 
-cell_value-placed : (place read : ℕ → ℕ) (w : ℕ) (c : Cell) → cell_value read w (cell_placed place c) ≡ cell_value (λ n. read (place n)) w c
+pub cell_value-placed : (place read : ℕ → ℕ) (w : ℕ) (c : Cell) → cell_value read w (cell_placed place c) ≡ cell_value (λ n. read (place n)) w c
 cell_value-placed place read w (cell.Const c) = refl
 cell_value-placed place read w (cell.Copy a) = refl
 cell_value-placed place read w (cell.Not a) = refl
@@ -104,23 +115,23 @@ cell_value-placed place read w (cell.Choose s a b) = refl
 cell_value-placed place read w (cell.Cat a b) = refl
 cell_value-placed place read w (cell.Slice a h l) = refl
 
-module _ (olds news : List FlatNet) (place back : ℕ → ℕ) (r : IsRenumbering olds news place back) where
+module _ (olds news : List ModuleNet) (place back : ℕ → ℕ) (r : IsRenumbering olds news place back) where
   -- what stands in the new list stood in the old one
-  pub old_net : (m : ℕ) (net : FlatNet) → slice_get news m ≡ Some net → slice_get olds (back m) ≡ Some net
+  pub old_net : (m : ℕ) (net : ModuleNet) → slice_get news m ≡ Some net → slice_get olds (back m) ≡ Some net
   old_net m net at =
       let lt : m < length news = slice_get_within news m net at in
       sym (r.nets (back m) (r.within m lt)) ∙ ap (slice_get news) (r.covers m lt) ∙ at
 
-  pub new_net : (n : ℕ) (net : FlatNet) → slice_get olds n ≡ Some net → slice_get news (place n) ≡ Some net
+  pub new_net : (n : ℕ) (net : ModuleNet) → slice_get olds n ≡ Some net → slice_get news (place n) ≡ Some net
   new_net n net at = r.nets n (slice_get_within olds n net at) ∙ at
 
-  Each-placed : (P : FlatNet → Type 0) → Each P olds → Each P news
+  Each-placed : (P : ModuleNet → Type 0) → Each P olds → Each P news
   Each-placed P h = Each-at P news (λ m net at. All-at P olds (back m) net h (old_net m net at))
 
   pub IsNet-placed : (w : Wire) → IsNet olds w → IsNet news (placed place w)
   IsNet-placed w h = record {
-    declared = slice_get-map (λ (x : FlatNet). x.width) news (place w.number) ∙ ap (option_map (λ (x : FlatNet). x.width)) (r.nets w.number (number-IsNet olds w h))
-        ∙ sym (slice_get-map (λ (x : FlatNet). x.width) olds w.number) ∙ h.declared;
+    declared = slice_get-map (λ (x : ModuleNet). x.width) news (place w.number) ∙ ap (option_map (λ (x : ModuleNet). x.width)) (r.nets w.number (number-IsNet olds w h))
+        ∙ sym (slice_get-map (λ (x : ModuleNet). x.width) olds w.number) ∙ h.declared;
   }
 
   CellFits-placed : (w : ℕ) (c : Cell) → CellFits olds w c → CellFits news w (cell_placed place c)
@@ -168,22 +179,22 @@ module _ (olds news : List FlatNet) (place back : ℕ → ℕ) (r : IsRenumberin
   -- the rules of wiring hold under the new numbers
   pub IsWired-placed : (assigns : List Assign) (nexts : List Next) → IsWired olds assigns nexts → IsWired news (map (assign_placed place) assigns) (map (next_placed place) nexts)
   IsWired-placed assigns nexts h =
-      let own = All-unmap (λ name. name ≢ codes "clk") (λ (x : FlatNet). x.name) olds h.distinct.0.1 in
-      let own' = All-unmap (λ name. name ≢ codes "rst") (λ (x : FlatNet). x.name) olds h.distinct.1.0 in
+      let own = All-unmap (λ name. name ≢ codes "clk") (λ (x : ModuleNet). x.name) olds h.distinct.0.1 in
+      let own' = All-unmap (λ name. name ≢ codes "rst") (λ (x : ModuleNet). x.name) olds h.distinct.1.0 in
       record {
-        names = Each-placed (λ (n : FlatNet). IsNetName n.name) h.names;
+        names = Each-placed (λ (n : ModuleNet). IsNetName n.name) h.names;
         distinct = (
-          (h.distinct.0.0, All-map (λ name. name ≢ codes "clk") (λ (x : FlatNet). x.name) news (Each-placed (λ (x : FlatNet). x.name ≢ codes "clk") own)),
+          (h.distinct.0.0, All-map (λ name. name ≢ codes "clk") (λ (x : ModuleNet). x.name) news (Each-placed (λ (x : ModuleNet). x.name ≢ codes "clk") own)),
           (
-            All-map (λ name. name ≢ codes "rst") (λ (x : FlatNet). x.name) news (Each-placed (λ (x : FlatNet). x.name ≢ codes "rst") own'),
+            All-map (λ name. name ≢ codes "rst") (λ (x : ModuleNet). x.name) news (Each-placed (λ (x : ModuleNet). x.name ≢ codes "rst") own'),
             distinct_names news (λ i j a b p q e.
                 let lt : i < length news = slice_get_within news i a p in
                 let lt' : j < length news = slice_get_within news j b q in
                 sym (r.covers i lt) ∙ ap place (names_differ olds (back i) (back j) a b h.distinct.1.1 (old_net i a p) (old_net j b q) e) ∙ r.covers j lt'),
           ),
         );
-        widths = Each-placed (λ (n : FlatNet). (1 ≤ n.width) × (n.width ≤ 64)) h.widths;
-        resets = Each-placed (λ (n : FlatNet). reset_of n.role < 2 ^ n.width) h.resets;
+        widths = Each-placed (λ (n : ModuleNet). (1 ≤ n.width) × (n.width ≤ 64)) h.widths;
+        resets = Each-placed (λ (n : ModuleNet). reset_of n.role < 2 ^ n.width) h.resets;
         results = All-map (λ (a : Assign). IsNet news a.to) (assign_placed place) assigns (All-from (λ (a : Assign). IsNet olds a.to) (λ (a : Assign). IsNet news (placed place a.to)) (λ a. IsNet-placed a.to) assigns h.results);
         cells = All-map (λ (a : Assign). CellFits news a.to.width a.cell) (assign_placed place) assigns
             (All-from (λ (a : Assign). CellFits olds a.to.width a.cell) (λ (a : Assign). CellFits news a.to.width (cell_placed place a.cell)) (λ a. CellFits-placed a.to.width a.cell) assigns h.cells);
@@ -194,12 +205,51 @@ module _ (olds news : List FlatNet) (place back : ℕ → ℕ) (r : IsRenumberin
         clocked_once = ClockedOnce-placed nexts h.registers h.clocked_once;
       }
 
+  -- a name that is new for the old nets is new for the new ones
+  IsNew-placed : (name : List ℕ) → IsNew name (taken_names olds) → IsNew name (taken_names news)
+  IsNew-placed name h = (h.0, (h.1.0, All-map (λ other. other ≢ name) (λ (x : ModuleNet). x.name) news (Each-placed (λ (x : ModuleNet). x.name ≢ name) (All-unmap (λ other. other ≢ name) (λ (x : ModuleNet). x.name) olds h.1.1))))
+
+  AreApart-placed : (numbers : List ℕ) → Each (λ n. n < length olds) numbers → AreApart numbers → AreApart (map place numbers)
+  AreApart-placed [] within h = tt
+  AreApart-placed (n ∷ numbers) within h = (
+    All-map (λ m. m ≢ place n) place numbers (All-both (λ m. m < length olds) (λ m. m ≢ n) (λ m. place m ≢ place n) (λ m lt ne e. ne (place_once m n lt within.0 e)) numbers within.1 h.0),
+    AreApart-placed numbers within.1 h.1,
+  )
+
+  -- the rules of instances hold under the new numbers
+  pub IsConnected-placed : (assigns : List Assign) (nexts : List Next) (instances : List Instance) → IsWired olds assigns nexts → AreDistinct (taken_names news) → IsConnected olds assigns instances
+      → IsConnected news (map (assign_placed place) assigns) (map (instance_placed place) instances)
+  IsConnected-placed assigns nexts instances wired distinct h =
+      let cross = distinct_cross (map (λ (i : Instance). i.name) instances) (taken_names olds) h.distinct in
+      let within = driven_within olds instances h.declared in
+      record {
+        names = All-map (λ (i : Instance). IsNetName i.name) (instance_placed place) instances h.names;
+        distinct = rw (map-map (instance_placed place) (λ (i : Instance). i.name) instances)
+            (distinct_join (map (λ (i : Instance). i.name) instances) (taken_names news) cross.0 distinct
+            (All-from (λ name. IsNew name (taken_names olds)) (λ name. IsNew name (taken_names news)) IsNew-placed (map (λ (i : Instance). i.name) instances) cross.1));
+        declared = All-map (λ (i : Instance). Each (IsNet news) i.nets) (instance_placed place) instances
+            (All-from (λ (i : Instance). Each (IsNet olds) i.nets) (λ (i : Instance). Each (IsNet news) (map (placed place) i.nets)) (λ i g. All-map (IsNet news) (placed place) i.nets (All-from (IsNet olds) (λ w. IsNet news (placed place w)) IsNet-placed i.nets g)) instances h.declared);
+        paired = All-map (λ (i : Instance). length i.drives ≡ length i.nets) (instance_placed place) instances
+            (All-from (λ (i : Instance). length i.drives ≡ length i.nets) (λ (i : Instance). length i.drives ≡ length (map (placed place) i.nets)) (λ i e. e ∙ (let long : length (map (placed place) i.nets) ≡ length i.nets = simp length-map in sym long)) instances h.paired);
+        free = rw (driven_by-placed place instances) (All-map (IsFree news) place (driven_by instances)
+            (All-both (λ n. n < length olds) (IsFree olds) (λ n. IsFree news (place n)) (λ n lt f net at s. f net (sym (r.nets n lt) ∙ at) s) (driven_by instances) within h.free));
+        undriven = rw (driven_by-placed place instances) (All-map (Undriven (map (assign_placed place) assigns)) place (driven_by instances)
+            (All-both (λ n. n < length olds) (Undriven assigns) (λ n. Undriven (map (assign_placed place) assigns) (place n))
+            (λ n lt none. All-map (λ (a : Assign). a.to.number ≢ place n) (assign_placed place) assigns
+            (All-both (λ (a : Assign). IsNet olds a.to) (λ (a : Assign). a.to.number ≢ n) (λ (a : Assign). place a.to.number ≢ place n) (λ a net ne e. ne (place_once a.to.number n (number-IsNet olds a.to net) lt e)) assigns wired.results none))
+            (driven_by instances) within h.undriven));
+        once = rw (driven_by-placed place instances) (AreApart-placed (driven_by instances) within h.once);
+      }
+
   -- every net keeps its driver
-  pub IsDriven-placed : (assigns : List Assign) (nexts : List Next) → IsDriven olds assigns nexts → IsDriven news (map (assign_placed place) assigns) (map (next_placed place) nexts)
-  IsDriven-placed assigns nexts h = record {
-    driven = λ m net at role none. h.driven (back m) net (old_net m net at) role
+  pub IsDriven-placed : (assigns : List Assign) (nexts : List Next) (instances : List Instance) → IsDriven olds assigns nexts instances
+      → IsDriven news (map (assign_placed place) assigns) (map (next_placed place) nexts) (map (instance_placed place) instances)
+  IsDriven-placed assigns nexts instances h = record {
+    driven = λ m net at role none unjoined. h.driven (back m) net (old_net m net at) role
         (All-from (λ (a : Assign). place a.to.number ≢ m) (λ (a : Assign). a.to.number ≢ back m) (λ a ne e. ne (ap place e ∙ r.covers m (slice_get_within news m net at))) assigns
-        (All-unmap (λ (a : Assign). a.to.number ≢ m) (assign_placed place) assigns none));
+        (All-unmap (λ (a : Assign). a.to.number ≢ m) (assign_placed place) assigns none))
+        (All-from (λ n. place n ≢ m) (λ n. n ≢ back m) (λ n ne e. ne (ap place e ∙ r.covers m (slice_get_within news m net at))) (driven_by instances)
+        (All-unmap (λ n. n ≢ m) place (driven_by instances) (subst (Each (λ n. n ≢ m)) (driven_by-placed place instances) unjoined)));
     clocked = λ m net at role none. h.clocked (back m) net (old_net m net at) role
         (All-from (λ (x : Next). place x.register.number ≢ m) (λ (x : Next). x.register.number ≢ back m) (λ x ne e. ne (ap place e ∙ r.covers m (slice_get_within news m net at))) nexts
         (All-unmap (λ (x : Next). x.register.number ≢ m) (next_placed place) nexts none));
@@ -211,7 +261,7 @@ module _ (olds news : List FlatNet) (place back : ℕ → ℕ) (r : IsRenumberin
     fits = λ n w h.
         let lt' : n < length (widths_of olds) = slice_get_within (widths_of olds) n w h in
         let lt : n < length olds = rw length-map at lt' in
-        s.fits (place n) w (slice_get-map (λ (x : FlatNet). x.width) news (place n) ∙ ap (option_map (λ (x : FlatNet). x.width)) (r.nets n lt) ∙ sym (slice_get-map (λ (x : FlatNet). x.width) olds n) ∙ h);
+        s.fits (place n) w (slice_get-map (λ (x : ModuleNet). x.width) news (place n) ∙ ap (option_map (λ (x : ModuleNet). x.width)) (r.nets n lt) ∙ sym (slice_get-map (λ (x : ModuleNet). x.width) olds n) ∙ h);
     holds = All-from (λ (a : Assign). Holds read (assign_placed place a)) (Holds (λ n. read (place n))) (λ a h. h ∙ cell_value-placed place read a.to.width a.cell) assigns
         (All-unmap (Holds read) (assign_placed place) assigns s.holds);
   }

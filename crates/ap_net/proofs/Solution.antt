@@ -9,7 +9,7 @@ use Rattle.ap_net.specs.declared.cell.Cell.{Cell}
 use Rattle.ap_net.specs.declared.cell.Cell.TheVariants as cell
 use Rattle.ap_net.specs.declared.net.Role.{Role}
 use Rattle.ap_net.specs.declared.net.Role.TheVariants as role
-use Rattle.ap_net.specs.declared.net.FlatNet.{FlatNet}
+use Rattle.ap_net.specs.declared.net.ModuleNet.{ModuleNet}
 use Rattle.ap_net.specs.declared.net.Assign.{Assign}
 use Rattle.ap_net.specs.Cells.{cell_value, operands}
 use Rattle.ap_net.specs.Wiring.{IsSource, Holds, Ranked, DrivenOnce, Undriven}
@@ -28,7 +28,7 @@ by_role role.Output x = 0
 by_role role.Plain x = 0
 by_role (role.Register reset) x = x
 
-abbrev pub by_net : Option FlatNet → ℕ → ℕ
+abbrev pub by_net : Option ModuleNet → ℕ → ℕ
 by_net None x = 0
 by_net (Some net) x = by_role net.role x
 
@@ -83,7 +83,7 @@ cell_value-agree f g w (cell.Choose s a b) h = rw (h.0, h.1.0, h.1.1.0) refl
 cell_value-agree f g w (cell.Cat a b) h = rw (h.0, h.1.0) refl
 cell_value-agree f g w (cell.Slice a i j) h = rw h.0 refl
 
-module _ (nets : List FlatNet) (assigns : List Assign) (given : Given nets) where
+module _ (nets : List ModuleNet) (assigns : List Assign) (given : Given nets) where
   -- a net's value, going down this many steps
   abbrev pub value : ℕ → ℕ → ℕ
   value zero n = 0
@@ -98,7 +98,7 @@ module _ (nets : List FlatNet) (assigns : List Assign) (given : Given nets) wher
         | Some net ↦ λ e. go net e net.role refl
       ] refl
     where
-      go : (net : FlatNet) → slice_get nets n ≡ Some net → (r : Role) → net.role ≡ r → by_role r (given.number n f) ≡ by_role r (given.number n g)
+      go : (net : ModuleNet) → slice_get nets n ≡ Some net → (r : Role) → net.role ≡ r → by_role r (given.number n f) ≡ by_role r (given.number n g)
       go net at role.Input e = looks n net f g at (subst IsSource (sym e) tt) agree
       go net at role.Output e = refl
       go net at role.Plain e = refl
@@ -129,7 +129,7 @@ module _ (nets : List FlatNet) (assigns : List Assign) (given : Given nets) wher
     solution_at fuel n lt enough = get_or-map-range_with_len (λ n. value (rank n + 1) n) 0 (length nets) n n 0 lt (omega arith) ∙ stable (rank n + 1) fuel n (omega arith) enough
 
     -- a source that no assign drives has the number that it is given
-    pub solution-given : (n : ℕ) (net : FlatNet) → slice_get nets n ≡ Some net → IsSource net.role → n < length nets → Undriven assigns n → slice_index solution n ≡ given.number n (slice_index solution)
+    pub solution-given : (n : ℕ) (net : ModuleNet) → slice_get nets n ≡ Some net → IsSource net.role → n < length nets → Undriven assigns n → slice_index solution n ≡ given.number n (slice_index solution)
     solution-given n net at source lt none =
         solution_at (suc (rank n)) n lt (omega arith)
         ∙ rw (driver-None assigns n none, at) (by_source net.role source (given.number n (value (rank n))))

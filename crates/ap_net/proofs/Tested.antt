@@ -3,7 +3,7 @@ use Rattle.std.proofs.Common.{◌≡◌, ℕ, ◌+◌, ◌&&◌, ◌||◌, suc, 
 use Rattle.std.specs.Prelude.{slice_get, ◌==◌, IsTrue}
 use Rattle.ap_net.specs.declared.net.Role.{Role}
 use Rattle.ap_net.specs.declared.net.Role.TheVariants as role
-use Rattle.ap_net.specs.declared.net.FlatNet.{FlatNet}
+use Rattle.ap_net.specs.declared.net.ModuleNet.{ModuleNet}
 use Rattle.ap_net.specs.declared.net.Assign.{Assign}
 use Rattle.ap_net.specs.declared.net.Next.{Next}
 use Rattle.ap_net.specs.Wiring.{IsSource, IsDriven, Undriven, Unclocked, reset_of}
@@ -25,7 +25,7 @@ is_driven_by role.Plain assigned clocked = assigned
 is_driven_by (role.Register reset) assigned clocked = clocked
 
 -- whether every net has its driver, where the first has the number k
-abbrev pub are_driven : ℕ → List FlatNet → List Assign → List Next → Bool
+abbrev pub are_driven : ℕ → List ModuleNet → List Assign → List Next → Bool
 are_driven k [] assigns nexts = true
 are_driven k (net ∷ nets) assigns nexts = is_driven_by net.role (is_assigned assigns k) (is_clocked nexts k) && are_driven (k + 1) nets assigns nexts
 
@@ -53,7 +53,7 @@ clocked (x ∷ nexts) n h none =
       | false ↦ λ t. clocked nexts n (either_true (x.register.number == n) (is_clocked nexts n) h t) none.1
     ] refl
 
-driven_at : (k : ℕ) (nets : List FlatNet) (assigns : List Assign) (nexts : List Next) → are_driven k nets assigns nexts ≡ true → (n : ℕ) (net : FlatNet) → slice_get nets n ≡ Some net
+driven_at : (k : ℕ) (nets : List ModuleNet) (assigns : List Assign) (nexts : List Next) → are_driven k nets assigns nexts ≡ true → (n : ℕ) (net : ModuleNet) → slice_get nets n ≡ Some net
     → is_driven_by net.role (is_assigned assigns (k + n)) (is_clocked nexts (k + n)) ≡ true
 driven_at k [] assigns nexts h n net at = cc
 driven_at k (x ∷ nets) assigns nexts h zero net at =
@@ -65,9 +65,9 @@ driven_at k (x ∷ nets) assigns nexts h (suc n) net at =
     rw here (driven_at (k + 1) nets assigns nexts (both_true (is_driven_by x.role (is_assigned assigns k) (is_clocked nexts k)) (are_driven (k + 1) nets assigns nexts) h).1 n net at)
 
 -- the test tells that every net has its driver
-pub IsDriven-are_driven : (nets : List FlatNet) (assigns : List Assign) (nexts : List Next) → IsTrue (are_driven 0 nets assigns nexts) → IsDriven nets assigns nexts
+pub IsDriven-are_driven : (nets : List ModuleNet) (assigns : List Assign) (nexts : List Next) → IsTrue (are_driven 0 nets assigns nexts) → IsDriven nets assigns nexts []
 IsDriven-are_driven nets assigns nexts h = record {
-  driven = λ n net at other none. let here : 0 + n ≡ n = omega arith in plain net.role other (is_assigned assigns n) (is_clocked nexts n)
+  driven = λ n net at other none unjoined. let here : 0 + n ≡ n = omega arith in plain net.role other (is_assigned assigns n) (is_clocked nexts n)
       (subst (λ m. is_driven_by net.role (is_assigned assigns m) (is_clocked nexts m) ≡ true) here (driven_at 0 nets assigns nexts h n net at)) (λ t. assigned assigns n t none);
   clocked = λ n net at is none. let here : 0 + n ≡ n = omega arith in
       clocked nexts n (register net.role is (is_assigned assigns n) (is_clocked nexts n) (subst (λ m. is_driven_by net.role (is_assigned assigns m) (is_clocked nexts m) ≡ true) here (driven_at 0 nets assigns nexts h n net at))) none;

@@ -1,43 +1,41 @@
 use Rattle.std.proofs.Common.{◌≡◌, ◌≢◌, ℕ, ◌+◌, ◌<◌, ◌≤◌, ◌^◌, List, [], ◌∷◌, ◌++◌, length, Some, refl, sym, ap, subst, ◌∙◌, arith, Bool, true, false, zero-add}
 use Rattle.std.specs.Prelude.{slice_get, codes, if◌then◌else◌}
 use Rattle.std.specs.List.{AllByRecursion as Each}
-use Rattle.std.specs.Fmt.{decimal}
-use Rattle.std.proofs.lemmas.Fmt.{decimal_injective}
 use Rattle.std.proofs.lemmas.List.Sums.{sum_by-append}
 use Rattle.std.proofs.lemmas.List.{map-append, length-map}
 use Rattle.std.proofs.lemmas.Option.{slice_get_within}
 use Rattle.ap_net.specs.declared.cell.Wire.{Wire}
 use Rattle.ap_net.specs.declared.cell.Cell.{Cell}
 use Rattle.ap_net.specs.declared.cell.Cell.TheVariants as cell
-use Rattle.ap_net.specs.declared.net.FlatNet.{FlatNet}
+use Rattle.ap_net.specs.declared.net.ModuleNet.{ModuleNet}
 use Rattle.ap_net.specs.declared.net.Assign.{Assign}
 use Rattle.ap_net.specs.declared.net.Next.{Next}
-use Rattle.ap_net.specs.Names.{IsNetName, IsNew, AreDistinct, numbered, IsNotNumbered, HasFresh}
+use Rattle.ap_net.specs.Names.{IsNetName, IsNew, AreDistinct, numbered, HasFresh}
 use Rattle.ap_net.specs.Cells.{operands, widths_of, IsNet, CellFits}
 use Rattle.ap_net.specs.Wiring.{IsSource, reset_of, IsFree, Undriven, Unclocked, DrivenOnce, ClockedOnce, taken_names, NextFits, IsWired}
-use Rattle.ap_net.specs.Draft.{is_plain, is_wire, wire_count, CanFresh}
+use Rattle.ap_net.specs.Draft.{is_plain, is_wire, wire_count}
 use Rattle.ap_net.proofs.NameLemmas.{IsNew-is_new}
 use Rattle.ap_net.proofs.Lists.{All-join, All-from, All-both, same_left, get_left, get_end, some_same}
 
 -- a declared width stays
-pub width_stays : (nets more : List FlatNet) (n w : ℕ) → slice_get (widths_of nets) n ≡ Some w → slice_get (widths_of (nets ++ more)) n ≡ Some w
-width_stays nets more n w h = rw (map-append (λ (x : FlatNet). x.width) nets more) (get_left (widths_of nets) (widths_of more) n w h)
+pub width_stays : (nets more : List ModuleNet) (n w : ℕ) → slice_get (widths_of nets) n ≡ Some w → slice_get (widths_of (nets ++ more)) n ≡ Some w
+width_stays nets more n w h = rw (map-append (λ (x : ModuleNet). x.width) nets more) (get_left (widths_of nets) (widths_of more) n w h)
 
-pub IsNet-more : (nets more : List FlatNet) (w : Wire) → IsNet nets w → IsNet (nets ++ more) w
+pub IsNet-more : (nets more : List ModuleNet) (w : Wire) → IsNet nets w → IsNet (nets ++ more) w
 IsNet-more nets more w h = record { declared = width_stays nets more w.number w.width h.declared }
 
-pub IsNet-end : (nets : List FlatNet) (net : FlatNet) → IsNet (nets ++ net ∷ []) (record { number = length nets; width = net.width })
+pub IsNet-end : (nets : List ModuleNet) (net : ModuleNet) → IsNet (nets ++ net ∷ []) (record { number = length nets; width = net.width })
 IsNet-end nets net =
     let long : length (widths_of nets) ≡ length nets = simp length-map in
-    record { declared = rw (map-append (λ (x : FlatNet). x.width) nets (net ∷ []), ← long) (get_end (widths_of nets) net.width) }
+    record { declared = rw (map-append (λ (x : ModuleNet). x.width) nets (net ∷ []), ← long) (get_end (widths_of nets) net.width) }
 
 -- a declared net's number is below the number of nets
-pub number-IsNet : (nets : List FlatNet) (w : Wire) → IsNet nets w → w.number < length nets
+pub number-IsNet : (nets : List ModuleNet) (w : Wire) → IsNet nets w → w.number < length nets
 number-IsNet nets w h =
     let lt : w.number < length (widths_of nets) = slice_get_within (widths_of nets) w.number w.width h.declared in
     rw length-map at lt
 
-pub CellFits-more : (nets more : List FlatNet) (w : ℕ) (c : Cell) → CellFits nets w c → CellFits (nets ++ more) w c
+pub CellFits-more : (nets more : List ModuleNet) (w : ℕ) (c : Cell) → CellFits nets w c → CellFits (nets ++ more) w c
 CellFits-more nets more w (cell.Const c) h = h
 CellFits-more nets more w (cell.Copy x) h = (IsNet-more nets more x h.0, h.1)
 CellFits-more nets more w (cell.Not x) h = (IsNet-more nets more x h.0, h.1)
@@ -47,7 +45,7 @@ CellFits-more nets more w (cell.Cat x y) h = (IsNet-more nets more x h.0, IsNet-
 CellFits-more nets more w (cell.Slice x i j) h = (IsNet-more nets more x h.0, h.1, h.2, h.3)
 
 -- the operands of a cell that fits are declared
-pub operands-CellFits : (nets : List FlatNet) (w : ℕ) (c : Cell) → CellFits nets w c → Each (IsNet nets) (operands c)
+pub operands-CellFits : (nets : List ModuleNet) (w : ℕ) (c : Cell) → CellFits nets w c → Each (IsNet nets) (operands c)
 operands-CellFits nets w (cell.Const c) h = tt
 operands-CellFits nets w (cell.Copy x) h = (h.0, tt)
 operands-CellFits nets w (cell.Not x) h = (h.0, tt)
@@ -57,17 +55,17 @@ operands-CellFits nets w (cell.Cat x y) h = (h.0, (h.1, tt))
 operands-CellFits nets w (cell.Slice x i j) h = (h.0, tt)
 
 -- each operand of wired nets is declared
-pub declared : (nets : List FlatNet) (assigns : List Assign) (nexts : List Next) → IsWired nets assigns nexts → Each (λ (a : Assign). Each (IsNet nets) (operands a.cell)) assigns
+pub declared : (nets : List ModuleNet) (assigns : List Assign) (nexts : List Next) → IsWired nets assigns nexts → Each (λ (a : Assign). Each (IsNet nets) (operands a.cell)) assigns
 declared nets assigns nexts h = All-from (λ (a : Assign). CellFits nets a.to.width a.cell) (λ (a : Assign). Each (IsNet nets) (operands a.cell)) (λ a. operands-CellFits nets a.to.width a.cell) assigns h.cells
 
 -- a declared net is what it was
-earlier : (nets more : List FlatNet) (w : Wire) (net : FlatNet) → IsNet nets w → slice_get (nets ++ more) w.number ≡ Some net → slice_get nets w.number ≡ Some net
+earlier : (nets more : List ModuleNet) (w : Wire) (net : ModuleNet) → IsNet nets w → slice_get (nets ++ more) w.number ≡ Some net → slice_get nets w.number ≡ Some net
 earlier nets more w net h at = sym (same_left nets more w.number (number-IsNet nets w h)) ∙ at
 
-IsFree-more : (nets more : List FlatNet) (w : Wire) → IsNet nets w → IsFree nets w.number → IsFree (nets ++ more) w.number
+IsFree-more : (nets more : List ModuleNet) (w : Wire) → IsNet nets w → IsFree nets w.number → IsFree (nets ++ more) w.number
 IsFree-more nets more w h f = λ net at s. f net (earlier nets more w net h at) s
 
-NextFits-more : (nets more : List FlatNet) (x : Next) → NextFits nets x → NextFits (nets ++ more) x
+NextFits-more : (nets more : List ModuleNet) (x : Next) → NextFits nets x → NextFits (nets ++ more) x
 NextFits-more nets more x h = record {
   register = IsNet-more nets more x.register h.register;
   clocked = λ net at. h.clocked net (earlier nets more x.register net h.register at);
@@ -75,7 +73,7 @@ NextFits-more nets more x h = record {
   same = h.same;
 }
 
-AreDistinct-push : (names : List (List ℕ)) (name : List ℕ) → IsNew name names → AreDistinct names → AreDistinct (names ++ name ∷ [])
+pub AreDistinct-push : (names : List (List ℕ)) (name : List ℕ) → IsNew name names → AreDistinct names → AreDistinct (names ++ name ∷ [])
 AreDistinct-push [] name ne h = (tt, tt)
 AreDistinct-push (n ∷ names) name ne h = (All-join (λ other. other ≢ n) names (name ∷ []) h.0 ((λ e. ne.0 (sym e)), tt), AreDistinct-push names name ne.1 h.1)
 
@@ -92,15 +90,15 @@ pub IsWired-nil : IsWired [] [] []
 IsWired-nil = record { names = tt; distinct = (IsNew-is_new (codes "clk") (codes "rst" ∷ []) refl, (tt, tt)); widths = tt; resets = tt; results = tt; cells = tt; free = tt; once = tt; registers = tt; clocked_once = tt }
 
 -- to declare a net keeps the rules
-pub IsWired-declare : (nets : List FlatNet) (assigns : List Assign) (nexts : List Next) (net : FlatNet) → IsNetName net.name → IsNew net.name (taken_names nets)
+pub IsWired-declare : (nets : List ModuleNet) (assigns : List Assign) (nexts : List Next) (net : ModuleNet) → IsNetName net.name → IsNew net.name (taken_names nets)
     → 1 ≤ net.width → net.width ≤ 64 → reset_of net.role < 2 ^ net.width → IsWired nets assigns nexts → IsWired (nets ++ net ∷ []) assigns nexts
 IsWired-declare nets assigns nexts net name new low high reset h =
-    let more : List FlatNet = net ∷ [] in
+    let more : List ModuleNet = net ∷ [] in
     record {
-      names = All-join (λ (n : FlatNet). IsNetName n.name) nets more h.names (name, tt);
-      distinct = rw (map-append (λ (n : FlatNet). n.name) nets more) (AreDistinct-push (taken_names nets) net.name new h.distinct);
-      widths = All-join (λ (n : FlatNet). (1 ≤ n.width) × (n.width ≤ 64)) nets more h.widths ((low, high), tt);
-      resets = All-join (λ (n : FlatNet). reset_of n.role < 2 ^ n.width) nets more h.resets (reset, tt);
+      names = All-join (λ (n : ModuleNet). IsNetName n.name) nets more h.names (name, tt);
+      distinct = rw (map-append (λ (n : ModuleNet). n.name) nets more) (AreDistinct-push (taken_names nets) net.name new h.distinct);
+      widths = All-join (λ (n : ModuleNet). (1 ≤ n.width) × (n.width ≤ 64)) nets more h.widths ((low, high), tt);
+      resets = All-join (λ (n : ModuleNet). reset_of n.role < 2 ^ n.width) nets more h.resets (reset, tt);
       results = All-from (λ (a : Assign). IsNet nets a.to) (λ (a : Assign). IsNet (nets ++ more) a.to) (λ a. IsNet-more nets more a.to) assigns h.results;
       cells = All-from (λ (a : Assign). CellFits nets a.to.width a.cell) (λ (a : Assign). CellFits (nets ++ more) a.to.width a.cell) (λ a. CellFits-more nets more a.to.width a.cell) assigns h.cells;
       free = All-both (λ (a : Assign). IsNet nets a.to) (λ (a : Assign). IsFree nets a.to.number) (λ (a : Assign). IsFree (nets ++ more) a.to.number) (λ a. IsFree-more nets more a.to) assigns h.results h.free;
@@ -110,7 +108,7 @@ IsWired-declare nets assigns nexts net name new low high reset h =
     }
 
 -- to drive a net keeps the rules
-pub IsWired-assign : (nets : List FlatNet) (assigns : List Assign) (nexts : List Next) (a : Assign) → IsNet nets a.to → CellFits nets a.to.width a.cell
+pub IsWired-assign : (nets : List ModuleNet) (assigns : List Assign) (nexts : List Next) (a : Assign) → IsNet nets a.to → CellFits nets a.to.width a.cell
     → IsFree nets a.to.number → Undriven assigns a.to.number → IsWired nets assigns nexts → IsWired nets (assigns ++ a ∷ []) nexts
 IsWired-assign nets assigns nexts a net fits free undriven h = record {
   names = h.names;
@@ -126,7 +124,7 @@ IsWired-assign nets assigns nexts a net fits free undriven h = record {
 }
 
 -- to drive a register keeps the rules
-pub IsWired-next : (nets : List FlatNet) (assigns : List Assign) (nexts : List Next) (x : Next) → NextFits nets x → Unclocked nexts x.register.number
+pub IsWired-next : (nets : List ModuleNet) (assigns : List Assign) (nexts : List Next) (x : Next) → NextFits nets x → Unclocked nexts x.register.number
     → IsWired nets assigns nexts → IsWired nets assigns (nexts ++ x ∷ [])
 IsWired-next nets assigns nexts x fits unclocked h = record {
   names = h.names;
@@ -142,34 +140,20 @@ IsWired-next nets assigns nexts x fits unclocked h = record {
 }
 
 -- a new net may be driven where its role is no source
-pub IsFree-end : (nets : List FlatNet) (net : FlatNet) → (IsSource net.role → ⊥) → IsFree (nets ++ net ∷ []) (length nets)
-IsFree-end nets net f m at s = let same : net ≡ m = some_same (sym (get_end nets net) ∙ at) in f (subst (λ (x : FlatNet). IsSource x.role) (sym same) s)
+pub IsFree-end : (nets : List ModuleNet) (net : ModuleNet) → (IsSource net.role → ⊥) → IsFree (nets ++ net ∷ []) (length nets)
+IsFree-end nets net f m at s = let same : net ≡ m = some_same (sym (get_end nets net) ∙ at) in f (subst (λ (x : ModuleNet). IsSource x.role) (sym same) s)
 
 -- no assign drives a net past the end
-pub Undriven-end : (nets : List FlatNet) (assigns : List Assign) → Each (λ (a : Assign). IsNet nets a.to) assigns → Undriven assigns (length nets)
+pub Undriven-end : (nets : List ModuleNet) (assigns : List Assign) → Each (λ (a : Assign). IsNet nets a.to) assigns → Undriven assigns (length nets)
 Undriven-end nets assigns h = All-from (λ (a : Assign). IsNet nets a.to) (λ (a : Assign). a.to.number ≢ length nets) (λ a net e. let lt = number-IsNet nets a.to net in absurd (omega arith)) assigns h
 
 -- one more net is one more wire, or none
-pub wire_count-push : (nets : List FlatNet) (net : FlatNet) → wire_count (nets ++ net ∷ []) ≡ wire_count nets + (if is_plain net.role then 1 else 0)
-wire_count-push nets net = sum_by-append (λ (x : FlatNet). if is_wire x then 1 else 0) nets (net ∷ []) ∙ ap (λ n. wire_count nets + n) (zero-add (if is_wire net then 1 else 0))
+pub wire_count-push : (nets : List ModuleNet) (net : ModuleNet) → wire_count (nets ++ net ∷ []) ≡ wire_count nets + (if is_plain net.role then 1 else 0)
+wire_count-push nets net = sum_by-append (λ (x : ModuleNet). if is_wire x then 1 else 0) nets (net ∷ []) ∙ ap (λ n. wire_count nets + n) (zero-add (if is_wire net then 1 else 0))
 
-HasFresh-push : (names : List (List ℕ)) (name : List ℕ) (count count' : ℕ) → count ≤ count' → ((k : ℕ) → count' ≤ k → k < 2 ^ 64 → name ≢ numbered k) → HasFresh names count → HasFresh (names ++ name ∷ []) count'
+pub HasFresh-push : (names : List (List ℕ)) (name : List ℕ) (count count' : ℕ) → count ≤ count' → ((k : ℕ) → count' ≤ k → k < 2 ^ 64 → name ≢ numbered k) → HasFresh names count → HasFresh (names ++ name ∷ []) count'
 HasFresh-push names name count count' le ne h = record { free = λ k low high. All-join (λ other. other ≢ numbered k) names (name ∷ []) (h.free k (omega arith) high) (ne k low high, tt) }
 
-count_grows : (b : Bool) (n : ℕ) → n ≤ n + (if b then 1 else 0)
+pub count_grows : (b : Bool) (n : ℕ) → n ≤ n + (if b then 1 else 0)
 count_grows true n = omega arith
 count_grows false n = omega arith
-
--- after a net that isn't named n and a number fresh wires can be had still
-pub CanFresh-declare : (nets : List FlatNet) (net : FlatNet) → IsNotNumbered net.name → CanFresh nets → CanFresh (nets ++ net ∷ [])
-CanFresh-declare nets net other h = rw (map-append (λ (n : FlatNet). n.name) nets (net ∷ []), wire_count-push nets net)
-    (HasFresh-push (taken_names nets) net.name (wire_count nets) (wire_count nets + (if is_plain net.role then 1 else 0)) (count_grows (is_plain net.role) (wire_count nets)) (λ k low high. other k high) h)
-
--- after a fresh wire further ones can be had
-pub CanFresh-fresh : (nets : List FlatNet) (net : FlatNet) → net.name ≡ numbered (wire_count nets) → is_plain net.role ≡ true → wire_count nets < 2 ^ 64 → CanFresh nets → CanFresh (nets ++ net ∷ [])
-CanFresh-fresh nets net named plain small h =
-    let count : ℕ = wire_count nets in
-    let more : wire_count (nets ++ net ∷ []) ≡ count + 1 = wire_count-push nets net ∙ rw plain refl in
-    rw (map-append (λ (n : FlatNet). n.name) nets (net ∷ []), more)
-    (HasFresh-push (taken_names nets) net.name count (count + 1) (omega arith)
-    (λ k low high e. let tails : decimal count ≡ decimal k = let f : numbered count ≡ numbered k = sym named ∙ e in cc in let same : count ≡ k = decimal_injective count k small high tails in absurd (omega arith)) h)

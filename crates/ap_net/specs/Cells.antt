@@ -5,7 +5,7 @@ use Rattle.ap_net.specs.declared.cell.TwoOp.{TwoOp}
 use Rattle.ap_net.specs.declared.cell.TwoOp.TheVariants as op
 use Rattle.ap_net.specs.declared.cell.Cell.{Cell}
 use Rattle.ap_net.specs.declared.cell.Cell.TheVariants as cell
-use Rattle.ap_net.specs.declared.net.FlatNet.{FlatNet}
+use Rattle.ap_net.specs.declared.net.ModuleNet.{ModuleNet}
 
 -- the value of an operator on nets whose result has w bits
 abbrev pub two_value : TwoOp → ℕ → ℕ → ℕ → ℕ
@@ -37,11 +37,11 @@ operands (cell.Choose s a b) = s ∷ a ∷ b ∷ []
 operands (cell.Cat a b) = a ∷ b ∷ []
 operands (cell.Slice a h l) = a ∷ []
 
-abbrev pub widths_of : List FlatNet → List ℕ
+abbrev pub widths_of : List ModuleNet → List ℕ
 widths_of nets = map (λ n. n.width) nets
 
 -- the net is declared with this width
-pub record IsNet (nets : List FlatNet) (w : Wire) : Type 0 where
+pub record IsNet (nets : List ModuleNet) (w : Wire) : Type 0 where
   pub declared : slice_get (widths_of nets) w.number ≡ Some w.width
 
 -- a comparison gives one bit, any other operator a result as wide as its operands
@@ -51,7 +51,7 @@ FitsTwo op.Ltu to w = to ≡ 1
 FitsTwo o to w = to ≡ w
 
 -- the cell's operands are declared, and the widths are those of its operator for a result of w bits
-abbrev pub CellFits : List FlatNet → ℕ → Cell → Type 0
+abbrev pub CellFits : List ModuleNet → ℕ → Cell → Type 0
 CellFits nets w (cell.Const c) = c < 2 ^ w
 CellFits nets w (cell.Copy a) = IsNet nets a × (a.width ≡ w)
 CellFits nets w (cell.Not a) = IsNet nets a × (a.width ≡ w)

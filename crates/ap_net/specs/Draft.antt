@@ -1,20 +1,52 @@
 -- A module that is being built, and how a piece of circuit makes it grow.
-use Rattle.std.specs.Prelude.{◌≡◌, ℕ, ◌<◌, List, ◌++◌, length, slice_get, Some, count_by, Bool, true, false}
+use Rattle.std.specs.Prelude.{◌≡◌, ◌≢◌, ℕ, ◌<◌, ◌≤◌, List, [], ◌++◌, length, codes, slice_get, Some, count_by, Bool, true, false}
+use Rattle.std.specs.List.{AllByRecursion as Each}
 use Rattle.ap_net.specs.declared.net.Role.{Role}
 use Rattle.ap_net.specs.declared.net.Role.TheVariants as role
-use Rattle.ap_net.specs.declared.net.FlatNet.{FlatNet}
+use Rattle.ap_net.specs.declared.net.ModuleNet.{ModuleNet}
 use Rattle.ap_net.specs.declared.net.Assign.{Assign}
+use Rattle.ap_net.specs.declared.cell.Wire.{Wire}
 use Rattle.ap_net.specs.declared.net.Next.{Next}
-use Rattle.ap_net.specs.Modules.{ports_among}
-use Rattle.ap_net.specs.Names.{HasFresh, IsNew, IsNotNumbered}
-use Rattle.ap_net.specs.Wiring.{IsSource, reset_of, Undriven, Settles, Ranked, taken_names}
+use Rattle.ap_net.specs.declared.net.Instance.{Instance}
+use Rattle.ap_net.specs.Cells.{operands}
+use Rattle.ap_net.specs.Modules.{ModuleText, IsInstanceIn, ports_among}
+use Rattle.ap_net.specs.Names.{HasFresh, IsNetName, IsNew, IsNotNumbered}
+use Rattle.ap_net.specs.Wiring.{IsWired, IsConnected, IsSource, reset_of, Undriven, Unjoined, Settles, Ranked, names_taken}
+use Rattle.ap_net.specs.Opened.{SolveParts, IsOpenOrder, AreOrdered}
 
--- a module's name, its nets in the order of their declaration, and what drives them
+-- a module's name, its nets in the order of their declaration, what drives them, and its instances
 pub record Draft : Type 0 where
   pub name : List ℕ
-  pub nets : List FlatNet
+  pub nets : List ModuleNet
   pub assigns : List Assign
   pub nexts : List Next
+  pub instances : List Instance
+
+-- the names that are taken
+abbrev pub names_of : Draft → List (List ℕ)
+names_of d = names_taken d.instances d.nets
+
+-- the net is a wire: neither a port nor a register
+abbrev pub is_plain : Role → Bool
+is_plain role.Input = false
+is_plain role.Output = false
+is_plain role.Plain = true
+is_plain (role.Register reset) = false
+
+abbrev pub is_wire : ModuleNet → Bool
+is_wire net = is_plain net.role
+
+-- the number of wires among the nets
+abbrev pub wire_count : List ModuleNet → ℕ
+wire_count nets = count_by is_wire nets
+
+-- what a module that is being built keeps, where count is the number of its wires
+pub record IsDraft (d : Draft) (count : ℕ) : Type 0 where
+  pub name : IsNetName d.name
+  pub wired : IsWired d.nets d.assigns d.nexts
+  pub connected : IsConnected d.nets d.assigns d.instances
+  pub alone : d.name ≢ codes "top" → d.instances ≡ []
+  pub wires : count ≡ wire_count d.nets
 
 -- ys begins with xs
 abbrev pub Begins : {X : Type 0} → List X → List X → Type 0
@@ -26,6 +58,7 @@ pub record Extends (old new : Draft) : Type 0 where
   pub nets : Begins old.nets new.nets
   pub assigns : Begins old.assigns new.assigns
   pub nexts : Begins old.nexts new.nexts
+  pub instances : Begins old.instances new.instances
 
 -- the rank goes on over the nets that came
 pub record RanksOn (old new : Draft) (rank : ℕ → ℕ) : Type 0 where
@@ -33,52 +66,66 @@ pub record RanksOn (old new : Draft) (rank : ℕ → ℕ) : Type 0 where
   pub agrees : (n : ℕ) → n < length old.nets → after n ≡ rank n
   pub ranked : Ranked after new.assigns
 
--- a piece of circuit was added: all that was there stays, no register got a driver, and every rank of the old assigns goes on
+-- the ranks go on over the nets and instances that came
+pub record OpensOn (modules : List ModuleText) (old new : Draft) (rank : ℕ → ℕ) (parts : ℕ → ℕ → ℕ) : Type 0 where
+  pub after : ℕ → ℕ
+  pub parts_after : ℕ → ℕ → ℕ
+  pub agrees : (n : ℕ) → n < length old.nets → after n ≡ rank n
+  pub order : IsOpenOrder modules new.assigns new.instances after parts_after
+
+-- Every rank of the old assigns and of the parts of instances goes on, where the modules of all instances are among these and no net
+-- of theirs depends on itself.
+unfoldable pub Opens : Draft → Draft → Type 0
+Opens old new = (modules : List ModuleText) → AreOrdered modules → Each (IsInstanceIn modules) new.instances
+    → (rank : ℕ → ℕ) (parts : ℕ → ℕ → ℕ) → IsOpenOrder modules old.assigns old.instances rank parts → OpensOn modules old new rank parts
+
+-- the assigns that came drive new nets, and read what was declared before
+unfoldable pub GrowsUp : Draft → Draft → Type 0
+GrowsUp old new = (more : List Assign) × (new.assigns ≡ old.assigns ++ more)
+    × Each (λ (a : Assign). (length old.nets ≤ a.to.number) × Each (λ (o : Wire). o.number < a.to.number) (operands a.cell)) more
+
+-- A piece of circuit was added: all that was there stays, no register got a driver, and every rank of the old assigns goes on,
+-- that of the nets of instances included.
 pub record Adds (old new : Draft) : Type 0 where
   pub extends : Extends old new
   pub nexts : new.nexts ≡ old.nexts
   pub order : (rank : ℕ → ℕ) → Ranked rank old.assigns → RanksOn old new rank
+  pub opens : Opens old new
+  pub grows : GrowsUp old new
 
 -- every wire and output has its driver
 abbrev pub AreDriven : Draft → Type 0
-AreDriven d = (n : ℕ) (net : FlatNet) → slice_get d.nets n ≡ Some net → (IsSource net.role → ⊥) → Undriven d.assigns n → ⊥
+AreDriven d = (n : ℕ) (net : ModuleNet) → slice_get d.nets n ≡ Some net → (IsSource net.role → ⊥) → Undriven d.assigns n → Unjoined d.instances n → ⊥
 
 -- every register has a number below k
-abbrev pub RegistersBelow : List FlatNet → ℕ → Type 0
-RegistersBelow nets k = (n : ℕ) (net : FlatNet) → slice_get nets n ≡ Some net → net.role ≡ role.Register (reset_of net.role) → n < k
+abbrev pub RegistersBelow : List ModuleNet → ℕ → Type 0
+RegistersBelow nets k = (n : ℕ) (net : ModuleNet) → slice_get nets n ≡ Some net → net.role ≡ role.Register (reset_of net.role) → n < k
 
 -- what was added is driven, and no register is among it
 pub record Closes (old new : Draft) : Type 0 where
   pub driven : AreDriven old → AreDriven new
   pub registers : (k : ℕ) → RegistersBelow old.nets k → RegistersBelow new.nets k
 
--- the net is a wire: neither a port nor a register
-abbrev pub is_plain : Role → Bool
-is_plain role.Input = false
-is_plain role.Output = false
-is_plain role.Plain = true
-is_plain (role.Register reset) = false
-
-abbrev pub is_wire : FlatNet → Bool
-is_wire net = is_plain net.role
-
--- the number of wires among the nets
-abbrev pub wire_count : List FlatNet → ℕ
-wire_count nets = count_by is_wire nets
-
 -- fresh wires can be had any number of times
-abbrev pub CanFresh : List FlatNet → Type 0
-CanFresh nets = HasFresh (taken_names nets) (wire_count nets)
+abbrev pub CanFresh : Draft → Type 0
+CanFresh d = HasFresh (names_of d) (wire_count d.nets)
 
 -- Fresh wires were made, each with its cell: they are driven, further ones can be had, a name that isn't n and a number
 -- is as new as it was, and the ports are as they were.
 pub record Makes (old new : Draft) : Type 0 where
   pub adds : Adds old new
+  pub instances : new.instances ≡ old.instances
   pub closes : Closes old new
-  pub fresh : CanFresh old.nets → CanFresh new.nets
-  pub names : (name : List ℕ) → IsNotNumbered name → IsNew name (taken_names old.nets) → IsNew name (taken_names new.nets)
+  pub fresh : CanFresh old → CanFresh new
+  pub names : (name : List ℕ) → IsNotNumbered name → IsNew name (names_of old) → IsNew name (names_of new)
   pub ports : ports_among new.nets ≡ ports_among old.nets
 
--- the reading fits the nets so far and meets every equation so far
+-- the reading fits the nets so far and meets every equation of their assigns
 abbrev pub SettlesDraft : Draft → (ℕ → ℕ) → Type 0
 SettlesDraft d read = Settles d.nets d.assigns read
+
+-- Readings of a module and its instances: they settle the draft, and part k solves instance k's module, whose ports equal the
+-- connected nets. The instances' modules are the first of their names among these.
+pub record SettlesOpen (modules : List ModuleText) (d : Draft) (read : ℕ → ℕ) (parts : ℕ → ℕ → ℕ) : Type 0 where
+  pub own : SettlesDraft d read
+  pub each : SolveParts modules d.instances read parts

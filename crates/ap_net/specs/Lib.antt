@@ -1,9 +1,11 @@
 pub mod Names
 pub mod Cells
 pub mod Wiring
-pub mod Draft
 pub mod Modules
+pub mod Opened
+pub mod Draft
 pub mod Places
+pub mod Placing
 pub mod Flat
 pub mod Finished
 pub mod Outside

@@ -4,6 +4,7 @@ use Rattle.std.specs.Char.{is_ascii_alphabetic, is_ascii_alphanumeric}
 use Rattle.std.specs.List.{list_all, list_any, AllByRecursion as Each}
 use Rattle.std.specs.Str.{bytes_eq}
 use Rattle.std.specs.Fmt.{decimal}
+pub use Rattle.ap_image.specs.Shapes.{AreDistinct}
 
 -- the words that the subset itself uses
 abbrev pub barred_words : List (List ℕ)
@@ -28,11 +29,6 @@ IsNetName name = IsTrue (is_net_name name)
 -- no name of the list is this one
 abbrev pub IsNew : List ℕ → List (List ℕ) → Type 0
 IsNew name names = Each (λ other. other ≢ name) names
-
--- no name stands twice
-abbrev pub AreDistinct : List (List ℕ) → Type 0
-AreDistinct [] = Unit {0}
-AreDistinct (name ∷ names) = Each (λ other. other ≢ name) names × AreDistinct names
 
 -- the letter n and a decimal number: the name of a wire that has no other
 abbrev pub numbered : ℕ → List ℕ

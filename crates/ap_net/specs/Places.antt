@@ -3,7 +3,7 @@
 use Rattle.std.specs.Prelude.{ℕ, ◌+◌, List, take, count_by, Bool, true, false, if◌then◌else◌}
 use Rattle.ap_net.specs.declared.net.Role.{Role}
 use Rattle.ap_net.specs.declared.net.Role.TheVariants as role
-use Rattle.ap_net.specs.declared.net.FlatNet.{FlatNet}
+use Rattle.ap_net.specs.declared.net.ModuleNet.{ModuleNet}
 use Rattle.ap_net.specs.Draft.{wire_count}
 
 abbrev pub has_port_role : Role → Bool
@@ -18,10 +18,10 @@ has_register_role role.Output = false
 has_register_role role.Plain = false
 has_register_role (role.Register reset) = true
 
-abbrev pub is_port : FlatNet → Bool
+abbrev pub is_port : ModuleNet → Bool
 is_port net = has_port_role net.role
 
-abbrev pub is_register : FlatNet → Bool
+abbrev pub is_register : ModuleNet → Bool
 is_register net = has_register_role net.role
 
 -- one more where the test holds
@@ -35,12 +35,12 @@ number_by role.Output p w r = p
 number_by role.Plain p w r = w
 number_by (role.Register reset) p w r = r
 
-abbrev pub port_count : List FlatNet → ℕ
+abbrev pub port_count : List ModuleNet → ℕ
 port_count nets = count_by is_port nets
 
-abbrev pub register_count : List FlatNet → ℕ
+abbrev pub register_count : List ModuleNet → ℕ
 register_count nets = count_by is_register nets
 
 -- the number of the net at place n, by its role
-abbrev pub place_by : Role → List FlatNet → ℕ → ℕ
+abbrev pub place_by : Role → List ModuleNet → ℕ → ℕ
 place_by role nets n = number_by role (port_count (take n nets)) (port_count nets + wire_count (take n nets)) ((port_count nets + wire_count nets) + register_count (take n nets))

@@ -2,7 +2,8 @@
 use Rattle.std.specs.Prelude.{ℕ, ◌+◌, ◌==◌, ◌++◌, List, [], ◌∷◌, length, codes, Option, Some, None, Bool, if◌then◌else◌}
 use Rattle.ap_net.specs.declared.net.FlatNet.{FlatNet}
 use Rattle.ap_net.specs.Flat.{Flat, value_named}
-use Rattle.ap_net.specs.Outside.{Outside, MemPorts, FilePort, Group, group_name, mem_name}
+use Rattle.ap_image.specs.declared.shape.MemShape.{MemShape}
+use Rattle.ap_net.specs.Outside.{Outside, FilePort, Group, group_name, mem_name}
 
 -- a write that a row shows: the number of its group, the memories numbered after the write groups; the index or address, if
 -- it has one; the value
@@ -27,7 +28,7 @@ group_writes nets v n (g ∷ gs) = if value_named nets v (group_name g (codes "e
     then record { group = n; index = index_of nets v g g.port; value = value_named nets v (group_name g (codes "v")) } ∷ group_writes nets v (n + 1) gs
     else group_writes nets v (n + 1) gs
 
-abbrev pub mem_writes : List FlatNet → List ℕ → ℕ → List MemPorts → List Write
+abbrev pub mem_writes : List FlatNet → List ℕ → ℕ → List MemShape → List Write
 mem_writes nets v n [] = []
 mem_writes nets v n (m ∷ ms) = if value_named nets v (mem_name m (codes "we")) == 1
     then record { group = n; index = Some (value_named nets v (mem_name m (codes "wa"))); value = value_named nets v (mem_name m (codes "wd")) } ∷ mem_writes nets v (n + 1) ms

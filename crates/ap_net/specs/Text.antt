@@ -1,5 +1,5 @@
 -- The one spelling of a netlist: modules, one after another, line by line.
-use Rattle.std.specs.Prelude.{◌≡◌, ℕ, ◌-◌, List, ◌++◌, codes, if◌then◌else◌}
+use Rattle.std.specs.Prelude.{◌≡◌, ℕ, ◌-◌, List, [], ◌∷◌, ◌++◌, Option, Some, None, codes, if◌then◌else◌}
 use Rattle.std.specs.List.{flat_map}
 use Rattle.std.specs.Fmt.{decimal}
 use Rattle.ap_net.specs.declared.cell.Wire.{Wire}
@@ -7,13 +7,14 @@ use Rattle.ap_net.specs.declared.cell.TwoOp.{TwoOp}
 use Rattle.ap_net.specs.declared.cell.TwoOp.TheVariants as op
 use Rattle.ap_net.specs.declared.cell.Cell.{Cell}
 use Rattle.ap_net.specs.declared.cell.Cell.TheVariants as cell
-use Rattle.ap_net.specs.declared.net.FlatNet.{FlatNet}
+use Rattle.ap_net.specs.declared.net.ModuleNet.{ModuleNet}
 use Rattle.ap_net.specs.declared.net.Port.{Port}
 use Rattle.ap_net.specs.declared.net.Net.{Net}
 use Rattle.ap_net.specs.declared.net.RegNet.{RegNet}
 use Rattle.ap_net.specs.declared.net.Assign.{Assign}
 use Rattle.ap_net.specs.declared.net.Next.{Next}
-use Rattle.ap_net.specs.Modules.{ModuleText, nets_of, name_at, reset_at}
+use Rattle.ap_net.specs.declared.net.Instance.{Instance}
+use Rattle.ap_net.specs.Modules.{ModuleText, nets_of, name_at, reset_at, module_named, earlier}
 
 -- the bits of a net, highest first: [7:0]
 abbrev pub range_text : ℕ → List ℕ
@@ -42,11 +43,11 @@ sign op.Xor = codes " ^ "
 sign op.Eq = codes " == "
 sign op.Ltu = codes " < "
 
-abbrev pub wire_name : List FlatNet → Wire → List ℕ
+abbrev pub wire_name : List ModuleNet → Wire → List ℕ
 wire_name nets w = name_at nets w.number
 
 -- the right side of an assign whose result has some bits
-abbrev pub cell_text : List FlatNet → ℕ → Cell → List ℕ
+abbrev pub cell_text : List ModuleNet → ℕ → Cell → List ℕ
 cell_text nets width (cell.Const value) = constant_text width value
 cell_text nets width (cell.Copy a) = wire_name nets a
 cell_text nets width (cell.Not a) = codes "~" ++ wire_name nets a
@@ -55,7 +56,7 @@ cell_text nets width (cell.Choose s a b) = wire_name nets s ++ codes " ? " ++ wi
 cell_text nets width (cell.Cat a b) = codes "{" ++ wire_name nets a ++ codes ", " ++ wire_name nets b ++ codes "}"
 cell_text nets width (cell.Slice a h l) = wire_name nets a ++ codes "[" ++ decimal h ++ codes ":" ++ decimal l ++ codes "]"
 
-abbrev pub assign_line : List FlatNet → Assign → List ℕ
+abbrev pub assign_line : List ModuleNet → Assign → List ℕ
 assign_line nets a = codes "  assign " ++ wire_name nets a.to ++ codes " = " ++ cell_text nets a.to.width a.cell ++ codes ";\n"
 
 -- what a register takes
@@ -66,21 +67,43 @@ taken_text register value = register ++ codes " <= " ++ value ++ codes ";"
 unfoldable pub clocked_text : List ℕ → List ℕ → List ℕ
 clocked_text at_reset at_edge = codes "  always @(posedge clk) if (rst) " ++ at_reset ++ codes " else " ++ at_edge ++ codes "\n"
 
-unfoldable pub always_line : List FlatNet → Next → List ℕ
+unfoldable pub always_line : List ModuleNet → Next → List ℕ
 always_line nets x = clocked_text (taken_text (wire_name nets x.register) (constant_text x.register.width (reset_at nets x.register.number)))
     (taken_text (wire_name nets x.register) (wire_name nets x.from))
 
--- a module: its head with the ports, its wires, its registers, its assigns, what its registers take
+-- the ports of an instance's module
+abbrev pub ports_in : Option ModuleText → List Port
+ports_in None = []
+ports_in (Some m) = m.ports
+
+-- the ports of an instance after clk and rst, each with the net that it is connected to
+abbrev pub connection_text : Port → List ℕ → List ℕ
+connection_text port net = codes ", ." ++ port.name ++ codes "(" ++ net ++ codes ")"
+
+abbrev pub connections_text : List ModuleNet → List Port → List Wire → List ℕ
+connections_text nets [] wires = []
+connections_text nets (port ∷ ports) [] = []
+connections_text nets (port ∷ ports) (w ∷ wires) = connection_text port (wire_name nets w) ++ connections_text nets ports wires
+
+abbrev pub instance_line : List ModuleText → List ModuleNet → Instance → List ℕ
+instance_line modules nets i = codes "  " ++ i.module ++ codes " " ++ i.name ++ codes " (.clk(clk), .rst(rst)" ++ connections_text nets (ports_in (module_named modules i.module)) i.nets ++ codes ");\n"
+
+-- a module: its head with the ports, its wires, its registers, its assigns, what its registers take, its instances of earlier
+-- modules
 abbrev pub module_head : ModuleText → List ℕ
 module_head m = codes "module " ++ m.name ++ codes " (\n  input clk,\n  input rst" ++ flat_map port_text m.ports ++ codes "\n);\n"
 
-abbrev pub module_text : ModuleText → List ℕ
-module_text m = module_head m ++ flat_map wire_line m.wires ++ flat_map reg_line m.regs ++ flat_map (assign_line (nets_of m)) m.assigns
-    ++ flat_map (always_line (nets_of m)) m.nexts ++ codes "endmodule\n"
+abbrev pub module_text : List ModuleText → ModuleText → List ℕ
+module_text modules m = module_head m ++ flat_map wire_line m.wires ++ flat_map reg_line m.regs ++ flat_map (assign_line (nets_of m)) m.assigns
+    ++ flat_map (always_line (nets_of m)) m.nexts ++ flat_map (instance_line modules (nets_of m)) m.instances ++ codes "endmodule\n"
+
+-- a netlist: its modules, one after another
+abbrev pub netlist_text : List ModuleText → List ℕ
+netlist_text modules = flat_map (module_text (earlier modules)) modules
 
 -- the text spells the netlist: one netlist has one text
 abbrev pub Spells : List ModuleText → List ℕ → Type 0
-Spells modules text = text ≡ flat_map module_text modules
+Spells modules text = text ≡ netlist_text modules
 
 -- some front of the text was appended
 abbrev pub AppendsFront : List ℕ → List ℕ → List ℕ → Type 0

@@ -1,50 +1,53 @@
-ghost use Rattle.std.specs.Prelude.{◌≡◌, ℕ, ◌+◌, ◌<◌, ◌≤◌, ◌∷◌, ◌++◌, [], List, length, OnOk, OnErr, IfOk, ◌^◌, slice_get, Some, if◌then◌else◌};
+ghost use Rattle.std.specs.Prelude.{◌≡◌, ◌≢◌, ℕ, ◌+◌, ◌<◌, ◌≤◌, ◌∷◌, ◌++◌, [], List, length, map, codes, OnOk, OnErr, IfOk, ◌^◌, slice_get, Some, if◌then◌else◌};
+ghost use Rattle.std.specs.List.{AllByRecursion as Each};
 ghost use Rattle.ap_net.specs.Names.{IsNetName, IsNew, IsNotNumbered, numbered};
 ghost use Rattle.ap_net.specs.Cells.{IsNet, CellFits, cell_value};
-ghost use Rattle.ap_net.specs.Wiring.{IsFree, reset_of, NextFits, IsDriven, Undriven, Unclocked, taken_names};
-ghost use Rattle.ap_net.specs.Modules.{ports_among};
+ghost use Rattle.ap_net.specs.Wiring.{IsFree, reset_of, NextFits, IsDriven, Undriven, Unjoined, Unclocked, AreApart, driven_among};
+ghost use Rattle.ap_net.specs.declared.net.Port.{Port};
+ghost use Rattle.ap_net.specs.Modules.{ModuleText, ports_among, outputs, instance_of, module_named, Connects};
+ghost use Rattle.ap_net.specs.Opened.{SolvesPart};
+ghost use Rattle.ap_net.specs.Placing.{Places, output_widths, input_widths, wires_from, fresh_nets, merged, output_wires, placed_instance, with_placed};
 ghost use Rattle.ap_net.specs.Finished.{IsFinished};
-ghost use Rattle.ap_net.specs.Draft.{Draft, Adds, Closes, Makes, CanFresh, SettlesDraft, is_plain, wire_count};
+ghost use Rattle.ap_net.specs.Draft.{Draft, Adds, Closes, Makes, CanFresh, SettlesDraft, SettlesOpen, names_of, is_plain, wire_count};
 
 use crate::NoMemory;
 use crate::cell::{Cell, Wire};
 use crate::finish::finished;
 use crate::module::Module;
 use crate::name::NetName;
-use crate::net::{Assign, FlatNet, Next, Role};
+use crate::net::{Assign, Instance, ModuleNet, Next, Port, Role};
+use ap_bits::Items;
 use std::alloc::Global;
 use std::marker::Model;
 
-/// A module that is being built. Contracts see its name, its nets in the order of their declaration, its assigns and the
-/// drivers of its registers, with all the rules on them that hold from the first declaration on.
+/// A module that is being built. Contracts see its name, its nets in the order of their declaration, its assigns, the drivers
+/// of its registers and its instances, with all the rules on them that hold from the first declaration on.
 #[derive(Drop)]
 pub struct Builder {
     alloc: Global,
     name: NetName,
-    nets: Vec<FlatNet>,
+    nets: Vec<ModuleNet>,
     assigns: Vec<Assign>,
     nexts: Vec<Next>,
+    instances: Vec<Instance>,
     wires: usize,
 }
 
 impl Model for Builder {
-    ghost use Rattle.std.specs.Prelude.{◌≡◌};
-    ghost use Rattle.ap_net.specs.Names.{IsNetName};
-    ghost use Rattle.ap_net.specs.Wiring.{IsWired};
-    ghost use Rattle.ap_net.specs.Draft.{Draft, wire_count};
+    ghost use Rattle.ap_net.specs.Draft.{Draft, IsDraft};
 
     ghost Value = { Draft };
 
-    ghost view = { λ b. record { name = b.name; nets = b.nets.items; assigns = b.assigns.items; nexts = b.nexts.items } };
+    ghost view = { λ b. record { name = b.name; nets = b.nets.items; assigns = b.assigns.items; nexts = b.nexts.items; instances = b.instances.items } };
 
-    ghost invariant = { λ b. IsNetName b.name × IsWired b.nets.items b.assigns.items b.nexts.items × (b.wires ≡ wire_count b.nets.items) };
+    ghost invariant = { λ b. IsDraft (record { name = b.name; nets = b.nets.items; assigns = b.assigns.items; nexts = b.nexts.items; instances = b.instances.items }) b.wires };
 }
 
 impl Builder {
     /// A module of this name, with `clk` and `rst` and nothing else.
     pub fn new(alloc: Global, name: &[u8]) -> Result<Builder, NoMemory>
         requires { IsNetName name.now }
-        ensures { IfOk result (λ made. made ≡ record { name = name.now; nets = []; assigns = []; nexts = [] }) }
+        ensures { IfOk result (λ made. made ≡ record { name = name.now; nets = []; assigns = []; nexts = []; instances = [] }) }
     {
         let name = NetName::new(alloc, name)?;
         Ok(Builder {
@@ -53,6 +56,7 @@ impl Builder {
             nets: Vec::new(alloc),
             assigns: Vec::new(alloc),
             nexts: Vec::new(alloc),
+            instances: Vec::new(alloc),
             wires: 0,
         })
     }
@@ -61,6 +65,54 @@ impl Builder {
     pub fn allocator(&self) -> Global {
         self.alloc
     }
+}
+
+/// The nets in a list.
+fn listed(alloc: Global, nets: &[Wire]) -> Result<Items<Wire>, NoMemory>
+    ensures { IfOk result (λ list. list ≡ nets.now) }
+{
+    let mut list = Items::new(alloc);
+    for net in nets {
+        list.push(*net)?;
+    }
+    Ok(list)
+}
+
+/// Which of these ports are outputs.
+fn outputs_of(alloc: Global, ports: &[Port]) -> Result<Items<bool>, NoMemory>
+    ensures { IfOk result (λ list. list ≡ map (λ p. p.output) ports.now) }
+{
+    let mut list = Items::new(alloc);
+    for port in ports {
+        list.push(port.output)?;
+    }
+    Ok(list)
+}
+
+/// One net for each port: the next output where the port is one, else the next input.
+fn connected(
+    alloc: Global,
+    ports: &[Port],
+    inputs: &[Wire],
+    outputs: &[Wire],
+) -> Result<Vec<Wire>, NoMemory>
+    requires inputs { length inputs.now ≡ length (input_widths ports.now) }
+    requires outputs { length outputs.now ≡ length (output_widths ports.now) }
+    ensures { IfOk result (λ nets. nets.items ≡ merged (map (λ p. p.output) ports.now) inputs.now outputs.now) }
+{
+    let mut nets = Vec::new(alloc);
+    let mut used = 0;
+    let mut driven = 0;
+    for port in ports {
+        if port.output {
+            nets.push(outputs[driven])?;
+            driven += 1;
+            continue;
+        }
+        nets.push(inputs[used])?;
+        used += 1;
+    }
+    Ok(nets)
 }
 
 /// How many wires a net of this role is.
@@ -77,20 +129,21 @@ impl Builder {
     /// Declares a net; the name is its own.
     fn declare(&mut self, name: NetName, width: u32, role: Role) -> Result<Wire, NoMemory>
         requires is_name { IsNetName name }
-        requires name { IsNew name (taken_names self.old.nets) }
+        requires name { IsNew name (names_of self.old) }
         requires low { 1 ≤ width }
         requires high { width ≤ 64 }
         requires reset { reset_of role < 2 ^ width }
         ensures ok { OnOk result (self.new ≡ record self.old { nets = self.old.nets ++ record { name = name; width = width; role = role } ∷ [] }) }
         ensures wire { IfOk result (λ w. w ≡ record { number = length self.old.nets; width = width }) }
         ensures adds { OnOk result (Adds self.old self.new) }
-        ensures named { OnOk result (IsNotNumbered name → CanFresh self.old.nets → CanFresh self.new.nets) }
-        ensures numbered { OnOk result (name ≡ numbered (wire_count self.old.nets) → role ≡ Role.Plain → CanFresh self.old.nets → CanFresh self.new.nets) }
+        ensures names { OnOk result ((other : List ℕ) → name ≢ other → IsNew other (names_of self.old) → IsNew other (names_of self.new)) }
+        ensures named { OnOk result (IsNotNumbered name → CanFresh self.old → CanFresh self.new) }
+        ensures numbered { OnOk result (name ≡ numbered (wire_count self.old.nets) → role ≡ Role.Plain → CanFresh self.old → CanFresh self.new) }
         ensures err { OnErr result (self.new ≡ self.old) }
     {
         let wires = self.wires + wires_in(role);
         let number = self.nets.len();
-        self.nets.push(FlatNet { name, width, role })?;
+        self.nets.push(ModuleNet { name, width, role })?;
         self.wires = wires;
         Ok(Wire { number, width })
     }
@@ -98,14 +151,14 @@ impl Builder {
     /// Declares a net of this role under a name that isn't there.
     fn named(&mut self, name: &[u8], width: u32, role: Role) -> Result<Wire, NoMemory>
         requires is_name { IsNetName name.now }
-        requires name { IsNew name.now (taken_names self.old.nets) }
+        requires name { IsNew name.now (names_of self.old) }
         requires low { 1 ≤ width }
         requires high { width ≤ 64 }
         requires reset { reset_of role < 2 ^ width }
         ensures ok { OnOk result (self.new ≡ record self.old { nets = self.old.nets ++ record { name = name.now; width = width; role = role } ∷ [] }) }
         ensures wire { IfOk result (λ w. w ≡ record { number = length self.old.nets; width = width }) }
         ensures adds { OnOk result (Adds self.old self.new) }
-        ensures fresh { OnOk result (IsNotNumbered name.now → CanFresh self.old.nets → CanFresh self.new.nets) }
+        ensures fresh { OnOk result (IsNotNumbered name.now → CanFresh self.old → CanFresh self.new) }
         ensures err { OnErr result (self.new ≡ self.old) }
     {
         let name = NetName::new(self.alloc, name)?;
@@ -114,13 +167,14 @@ impl Builder {
 
     /// A wire whose name is `n` and the decimal number of the wires declared before it. After an error nothing changed.
     pub fn fresh(&mut self, width: u32) -> Result<Wire, NoMemory>
-        requires name { IsNew (numbered (wire_count self.old.nets)) (taken_names self.old.nets) }
+        requires name { IsNew (numbered (wire_count self.old.nets)) (names_of self.old) }
         requires low { 1 ≤ width }
         requires high { width ≤ 64 }
         ensures ok { OnOk result (self.new ≡ record self.old { nets = self.old.nets ++ record { name = numbered (wire_count self.old.nets); width = width; role = Role.Plain } ∷ [] }) }
         ensures wire { IfOk result (λ w. w ≡ record { number = length self.old.nets; width = width }) }
         ensures adds { OnOk result (Adds self.old self.new) }
-        ensures fresh { OnOk result (CanFresh self.old.nets → CanFresh self.new.nets) }
+        ensures fresh { OnOk result (CanFresh self.old → CanFresh self.new) }
+        ensures names { OnOk result ((other : List ℕ) → IsNotNumbered other → IsNew other (names_of self.old) → IsNew other (names_of self.new)) }
         ensures err { OnErr result (self.new ≡ self.old) }
     {
         let name = NetName::numbered(self.alloc, self.wires)?;
@@ -130,13 +184,13 @@ impl Builder {
     /// Declares an input port.
     pub fn input(&mut self, name: &[u8], width: u32) -> Result<Wire, NoMemory>
         requires is_name { IsNetName name.now }
-        requires name { IsNew name.now (taken_names self.old.nets) }
+        requires name { IsNew name.now (names_of self.old) }
         requires low { 1 ≤ width }
         requires high { width ≤ 64 }
         ensures ok { OnOk result (self.new ≡ record self.old { nets = self.old.nets ++ record { name = name.now; width = width; role = Role.Input } ∷ [] }) }
         ensures wire { IfOk result (λ w. w ≡ record { number = length self.old.nets; width = width }) }
         ensures adds { OnOk result (Adds self.old self.new) }
-        ensures fresh { OnOk result (IsNotNumbered name.now → CanFresh self.old.nets → CanFresh self.new.nets) }
+        ensures fresh { OnOk result (IsNotNumbered name.now → CanFresh self.old → CanFresh self.new) }
         ensures err { OnErr result (self.new ≡ self.old) }
     {
         self.named(name, width, Role::Input)
@@ -145,13 +199,13 @@ impl Builder {
     /// Declares an output port.
     pub fn output(&mut self, name: &[u8], width: u32) -> Result<Wire, NoMemory>
         requires is_name { IsNetName name.now }
-        requires name { IsNew name.now (taken_names self.old.nets) }
+        requires name { IsNew name.now (names_of self.old) }
         requires low { 1 ≤ width }
         requires high { width ≤ 64 }
         ensures ok { OnOk result (self.new ≡ record self.old { nets = self.old.nets ++ record { name = name.now; width = width; role = Role.Output } ∷ [] }) }
         ensures wire { IfOk result (λ w. w ≡ record { number = length self.old.nets; width = width }) }
         ensures adds { OnOk result (Adds self.old self.new) }
-        ensures fresh { OnOk result (IsNotNumbered name.now → CanFresh self.old.nets → CanFresh self.new.nets) }
+        ensures fresh { OnOk result (IsNotNumbered name.now → CanFresh self.old → CanFresh self.new) }
         ensures err { OnErr result (self.new ≡ self.old) }
     {
         self.named(name, width, Role::Output)
@@ -160,13 +214,13 @@ impl Builder {
     /// Declares a wire of this name.
     pub fn wire(&mut self, name: &[u8], width: u32) -> Result<Wire, NoMemory>
         requires is_name { IsNetName name.now }
-        requires name { IsNew name.now (taken_names self.old.nets) }
+        requires name { IsNew name.now (names_of self.old) }
         requires low { 1 ≤ width }
         requires high { width ≤ 64 }
         ensures ok { OnOk result (self.new ≡ record self.old { nets = self.old.nets ++ record { name = name.now; width = width; role = Role.Plain } ∷ [] }) }
         ensures wire { IfOk result (λ w. w ≡ record { number = length self.old.nets; width = width }) }
         ensures adds { OnOk result (Adds self.old self.new) }
-        ensures fresh { OnOk result (IsNotNumbered name.now → CanFresh self.old.nets → CanFresh self.new.nets) }
+        ensures fresh { OnOk result (IsNotNumbered name.now → CanFresh self.old → CanFresh self.new) }
         ensures err { OnErr result (self.new ≡ self.old) }
     {
         self.named(name, width, Role::Plain)
@@ -175,14 +229,14 @@ impl Builder {
     /// Declares a register, with its value after the reset edge.
     pub fn register(&mut self, name: &[u8], width: u32, reset: u64) -> Result<Wire, NoMemory>
         requires is_name { IsNetName name.now }
-        requires name { IsNew name.now (taken_names self.old.nets) }
+        requires name { IsNew name.now (names_of self.old) }
         requires low { 1 ≤ width }
         requires high { width ≤ 64 }
         requires reset { reset < 2 ^ width }
         ensures ok { OnOk result (self.new ≡ record self.old { nets = self.old.nets ++ record { name = name.now; width = width; role = Role.Register reset } ∷ [] }) }
         ensures wire { IfOk result (λ w. w ≡ record { number = length self.old.nets; width = width }) }
         ensures adds { OnOk result (Adds self.old self.new) }
-        ensures fresh { OnOk result (IsNotNumbered name.now → CanFresh self.old.nets → CanFresh self.new.nets) }
+        ensures fresh { OnOk result (IsNotNumbered name.now → CanFresh self.old → CanFresh self.new) }
         ensures err { OnErr result (self.new ≡ self.old) }
     {
         self.named(name, width, Role::Register(reset))
@@ -194,6 +248,7 @@ impl Builder {
         requires fits { CellFits self.old.nets to.width cell }
         requires free { IsFree self.old.nets to.number }
         requires undriven { Undriven self.old.assigns to.number }
+        requires unjoined { Unjoined self.old.instances to.number }
         ensures ok { OnOk result (self.new ≡ record self.old { assigns = self.old.assigns ++ record { to = to; cell = cell } ∷ [] }) }
         ensures err { OnErr result (self.new ≡ self.old) }
     {
@@ -212,9 +267,104 @@ impl Builder {
         Ok(())
     }
 
+    /// An instance of a finished module, whose ports after `clk` and `rst` are connected to these nets, in order. It drives the
+    /// nets at the module's outputs.
+    pub fn instance(&mut self, name: &[u8], whole: &Module, nets: &[Wire]) -> Result<(), NoMemory>
+        requires top { self.old.name ≡ codes "top" }
+        requires is_name { IsNetName name.now }
+        requires name { IsNew name.now (names_of self.old) }
+        requires widths { map (λ w. w.width) nets.now ≡ map (λ p. p.width) whole.now.ports }
+        requires nets { Each (IsNet self.old.nets) nets.now }
+        requires free { Each (IsFree self.old.nets) (driven_among (outputs whole.now) nets.now) }
+        requires undriven { Each (Undriven self.old.assigns) (driven_among (outputs whole.now) nets.now) }
+        requires unjoined { Each (Unjoined self.old.instances) (driven_among (outputs whole.now) nets.now) }
+        requires apart { AreApart (driven_among (outputs whole.now) nets.now) }
+        ensures ok { OnOk result (self.new ≡ record self.old { instances = self.old.instances ++ instance_of name.now whole.now nets.now ∷ [] }) }
+        ensures err { OnErr result (self.new ≡ self.old) }
+    {
+        let name = NetName::new(self.alloc, name)?;
+        let module_name = whole.name().copy(self.alloc)?;
+        let nets = listed(self.alloc, nets)?;
+        let drives = outputs_of(self.alloc, whole.ports())?;
+        self.instances.push(Instance {
+            name,
+            module: module_name,
+            nets,
+            drives,
+        })?;
+        Ok(())
+    }
+
+    /// A fresh wire, where they can be had any number of times. After an error nothing changed.
+    fn next_fresh(&mut self, width: u32) -> Result<Wire, NoMemory>
+        requires fresh { CanFresh self.old }
+        requires low { 1 ≤ width }
+        requires high { width ≤ 64 }
+        ensures ok { OnOk result (self.new ≡ record self.old { nets = self.old.nets ++ record { name = numbered (wire_count self.old.nets); width = width; role = Role.Plain } ∷ [] }) }
+        ensures wire { IfOk result (λ w. w ≡ record { number = length self.old.nets; width = width }) }
+        ensures fresh { OnOk result (CanFresh self.new) }
+        ensures names { OnOk result ((other : List ℕ) → IsNotNumbered other → IsNew other (names_of self.old) → IsNew other (names_of self.new)) }
+    {
+        let _ = &self.nets;
+        let wire = self.fresh(width)?;
+        Ok(wire)
+    }
+
+    /// A fresh wire for each of these ports that is an output. After an error the builder is good for nothing but to be dropped.
+    fn fresh_outputs(&mut self, ports: &[Port]) -> Result<Items<Wire>, NoMemory>
+        requires fresh { CanFresh self.old }
+        requires widths { Each (λ (p : Port). (1 ≤ p.width) × (p.width ≤ 64)) ports.now }
+        ensures ok { OnOk result (self.new ≡ record self.old { nets = self.old.nets ++ fresh_nets (wire_count self.old.nets) (output_widths ports.now) }) }
+        ensures outputs { IfOk result (λ outs. outs ≡ wires_from (length self.old.nets) (output_widths ports.now)) }
+        ensures fresh { OnOk result (CanFresh self.new) }
+        ensures names { OnOk result ((other : List ℕ) → IsNotNumbered other → IsNew other (names_of self.old) → IsNew other (names_of self.new)) }
+    {
+        let mut outputs = Items::new(self.alloc);
+        for port in ports {
+            if !port.output {
+                continue;
+            }
+            outputs.push(self.next_fresh(port.width)?)?;
+        }
+        Ok(outputs)
+    }
+
+    /// Places an instance of a finished module over ready nets: these are connected to the module's inputs, in order, and a
+    /// fresh wire is made for each of its outputs. Answers these wires, in order. In a netlist with this module, the
+    /// instance's part of each solution solves the module, and each port equals the net that it is connected to. After an
+    /// error the builder is good for nothing but to be dropped.
+    pub fn place(
+        &mut self,
+        name: &[u8],
+        whole: &Module,
+        inputs: &[Wire],
+    ) -> Result<Items<Wire>, NoMemory>
+        requires top { self.old.name ≡ codes "top" }
+        requires fresh { CanFresh self.old }
+        requires is_name { IsNetName name.now }
+        requires name { IsNew name.now (names_of self.old) }
+        requires other { IsNotNumbered name.now }
+        requires widths { map (λ w. w.width) inputs.now ≡ input_widths whole.now.ports }
+        requires nets { Each (IsNet self.old.nets) inputs.now }
+        ensures ok { OnOk result (self.new ≡ with_placed self.old name.now whole.now inputs.now) }
+        ensures outputs { IfOk result (λ outs. outs ≡ output_wires (length self.old.nets) whole.now) }
+        ensures nets { IfOk result (λ outs. Each (IsNet self.new.nets) outs) }
+        ensures value { OnOk result ((modules : List ModuleText) (read : ℕ → ℕ) (parts : ℕ → ℕ → ℕ) → SettlesOpen modules self.new read parts → SettlesOpen modules self.old read parts
+            × (module_named modules whole.now.name ≡ Some whole.now → SolvesPart whole.now (placed_instance (length self.old.nets) name.now whole.now inputs.now) read (parts (length self.old.instances)))) }
+        ensures places { OnOk result (Places (placed_instance (length self.old.nets) name.now whole.now inputs.now ∷ []) self.old self.new) }
+        ensures connects { OnOk result (Connects whole.now (placed_instance (length self.old.nets) name.now whole.now inputs.now)) }
+    {
+        whole.rules();
+        let alloc = self.alloc;
+        let outputs = self.fresh_outputs(whole.ports())?;
+        let nets = connected(alloc, whole.ports(), inputs, outputs.as_slice())?;
+        self.instance(name, whole, &nets)?;
+        Ok(outputs)
+    }
+
     /// A fresh wire that this cell drives. After an error the builder is good for nothing but to be dropped.
     pub fn make(&mut self, width: u32, cell: Cell) -> Result<Wire, NoMemory>
-        requires fresh { CanFresh self.old.nets }
+        requires fresh { CanFresh self.old }
         requires low { 1 ≤ width }
         requires high { width ≤ 64 }
         requires fits { CellFits self.old.nets width cell }
@@ -231,7 +381,7 @@ impl Builder {
     /// An output port that this cell drives. After an error the builder is good for nothing but to be dropped.
     pub fn show(&mut self, name: &[u8], width: u32, cell: Cell) -> Result<Wire, NoMemory>
         requires is_name { IsNetName name.now }
-        requires name { IsNew name.now (taken_names self.old.nets) }
+        requires name { IsNew name.now (names_of self.old) }
         requires low { 1 ≤ width }
         requires high { width ≤ 64 }
         requires fits { CellFits self.old.nets width cell }
@@ -241,7 +391,9 @@ impl Builder {
         ensures value { IfOk result (λ w. (read : ℕ → ℕ) → SettlesDraft self.new read → SettlesDraft self.old read × (read w.number ≡ cell_value read width cell)) }
         ensures adds { OnOk result (Adds self.old self.new) }
         ensures closes { OnOk result (Closes self.old self.new) }
-        ensures fresh { OnOk result (IsNotNumbered name.now → CanFresh self.old.nets → CanFresh self.new.nets) }
+        ensures instances { OnOk result (self.new.instances ≡ self.old.instances) }
+        ensures names { OnOk result ((other : List ℕ) → name.now ≢ other → IsNew other (names_of self.old) → IsNew other (names_of self.new)) }
+        ensures fresh { OnOk result (IsNotNumbered name.now → CanFresh self.old → CanFresh self.new) }
     {
         let _ = &self.nets;
         let to = self.output(name, width)?;
@@ -252,7 +404,7 @@ impl Builder {
     /// The finished module: its nets stand by kind, ports first, then wires, then registers, each kind in the order of
     /// its declaration, and are numbered so.
     pub fn finish(self) -> Result<Module, NoMemory>
-        requires driven { IsDriven self.nets self.assigns self.nexts }
+        requires driven { IsDriven self.nets self.assigns self.nexts self.instances }
         requires port { 0 < length (ports_among self.nets) }
         ensures { IfOk result (IsFinished self) }
     {
@@ -262,8 +414,9 @@ impl Builder {
             nets,
             assigns,
             nexts,
+            instances,
             wires: _,
         } = self;
-        finished(alloc, name, &nets, &assigns, &nexts)
+        finished(alloc, name, &nets, &assigns, &nexts, &instances)
     }
 }

@@ -1,26 +1,27 @@
 ghost use Rattle.std.specs.Prelude.{◌≡◌, ℕ, ◌+◌, ◌<◌, List, length, map, slice_get, slice_index, Some, IfOk, ◌^◌};
 ghost use Rattle.std.specs.List.{AllByRecursion as Each};
 ghost use Rattle.ap_net.specs.declared.cell.Wire.{Wire};
-ghost use Rattle.ap_net.specs.declared.net.FlatNet.{FlatNet};
+ghost use Rattle.ap_net.specs.declared.net.ModuleNet.{ModuleNet};
 ghost use Rattle.ap_net.specs.declared.net.Assign.{Assign};
 ghost use Rattle.ap_net.specs.declared.net.Next.{Next};
+ghost use Rattle.ap_net.specs.declared.net.Instance.{Instance};
 ghost use Rattle.ap_net.specs.Cells.{operands};
-ghost use Rattle.ap_net.specs.Names.{IsNetName};
-ghost use Rattle.ap_net.specs.Wiring.{IsWired, IsDriven};
-ghost use Rattle.ap_net.specs.Draft.{Draft, is_plain, wire_count};
+ghost use Rattle.ap_net.specs.Wiring.{IsDriven};
+ghost use Rattle.ap_net.specs.Draft.{Draft, IsDraft, is_plain, wire_count};
 ghost use Rattle.ap_net.specs.Finished.{IsFinished};
-ghost use Rattle.ap_net.specs.Modules.{placed, cell_placed, assign_placed, next_placed, port_by, wire_by, reg_by, ports_among, wires_among, regs_among};
+ghost use Rattle.ap_net.specs.Modules.{placed, cell_placed, assign_placed, next_placed, instance_placed, port_by, wire_by, reg_by, ports_among, wires_among, regs_among};
 ghost use Rattle.ap_net.specs.Places.{has_port_role, has_register_role, one_more_if, number_by, port_count, place_by};
 
 use crate::NoMemory;
 use crate::cell::{Cell, Wire};
 use crate::module::Module;
 use crate::name::NetName;
-use crate::net::{Assign, FlatNet, Net, Next, Port, RegNet, Role};
+use crate::net::{Assign, Instance, ModuleNet, Net, Next, Port, RegNet, Role};
+use ap_bits::Items;
 use std::alloc::Global;
 
 /// The port that a net is, if it is one.
-fn port_of(alloc: Global, net: &FlatNet) -> Result<Option<Port>, NoMemory>
+fn port_of(alloc: Global, net: &ModuleNet) -> Result<Option<Port>, NoMemory>
     ensures { IfOk result (λ port. port ≡ port_by net.now.role net.now) }
 {
     let output = match net.role {
@@ -38,7 +39,7 @@ fn port_of(alloc: Global, net: &FlatNet) -> Result<Option<Port>, NoMemory>
 }
 
 /// The wire that a net is, if it is one.
-fn wire_of(alloc: Global, net: &FlatNet) -> Result<Option<Net>, NoMemory>
+fn wire_of(alloc: Global, net: &ModuleNet) -> Result<Option<Net>, NoMemory>
     ensures { IfOk result (λ wire. wire ≡ wire_by net.now.role net.now) }
 {
     let Role::Plain = net.role else {
@@ -50,7 +51,7 @@ fn wire_of(alloc: Global, net: &FlatNet) -> Result<Option<Net>, NoMemory>
 }
 
 /// The register that a net is, if it is one.
-fn reg_of(alloc: Global, net: &FlatNet) -> Result<Option<RegNet>, NoMemory>
+fn reg_of(alloc: Global, net: &ModuleNet) -> Result<Option<RegNet>, NoMemory>
     ensures { IfOk result (λ reg. reg ≡ reg_by net.now.role net.now) }
 {
     let Role::Register(reset) = net.role else {
@@ -62,7 +63,7 @@ fn reg_of(alloc: Global, net: &FlatNet) -> Result<Option<RegNet>, NoMemory>
 }
 
 /// The ports among nets, in the order of their declaration.
-fn ports_of(alloc: Global, nets: &[FlatNet]) -> Result<Vec<Port>, NoMemory>
+fn ports_of(alloc: Global, nets: &[ModuleNet]) -> Result<Vec<Port>, NoMemory>
     ensures { IfOk result (λ ports. ports.items ≡ ports_among nets.now) }
 {
     let mut ports = Vec::new(alloc);
@@ -75,7 +76,7 @@ fn ports_of(alloc: Global, nets: &[FlatNet]) -> Result<Vec<Port>, NoMemory>
 }
 
 /// The wires among nets, in the order of their declaration.
-fn wires_of(alloc: Global, nets: &[FlatNet]) -> Result<Vec<Net>, NoMemory>
+fn wires_of(alloc: Global, nets: &[ModuleNet]) -> Result<Vec<Net>, NoMemory>
     ensures { IfOk result (λ wires. wires.items ≡ wires_among nets.now) }
 {
     let mut wires = Vec::new(alloc);
@@ -88,7 +89,7 @@ fn wires_of(alloc: Global, nets: &[FlatNet]) -> Result<Vec<Net>, NoMemory>
 }
 
 /// The registers among nets, in the order of their declaration.
-fn regs_of(alloc: Global, nets: &[FlatNet]) -> Result<Vec<RegNet>, NoMemory>
+fn regs_of(alloc: Global, nets: &[ModuleNet]) -> Result<Vec<RegNet>, NoMemory>
     ensures { IfOk result (λ regs. regs.items ≡ regs_among nets.now) }
 {
     let mut regs = Vec::new(alloc);
@@ -153,14 +154,14 @@ impl Free {
 /// The numbers that nets get in the finished module.
 fn places_of(
     alloc: Global,
-    nets: &[FlatNet],
+    nets: &[ModuleNet],
     ports: usize,
     wires: usize,
 ) -> Result<Vec<usize>, NoMemory>
     requires ports { ports ≡ port_count nets.now }
     requires wires { wires ≡ wire_count nets.now }
     ensures length { IfOk result (λ places. length places.items ≡ length nets.now) }
-    ensures each { IfOk result (λ places. (n : ℕ) (net : FlatNet) → slice_get nets.now n ≡ Some net → slice_index places.items n ≡ place_by net.role nets.now n) }
+    ensures each { IfOk result (λ places. (n : ℕ) (net : ModuleNet) → slice_get nets.now n ≡ Some net → slice_index places.items n ≡ place_by net.role nets.now n) }
 {
     let mut places = Vec::new(alloc);
     let mut free = Free {
@@ -241,19 +242,79 @@ fn nexts_under(alloc: Global, nexts: &[Next], places: &[usize]) -> Result<Vec<Ne
     Ok(made)
 }
 
-/// The finished module of these nets and what drives them.
+/// The nets over the numbers of the finished module.
+fn nets_under(alloc: Global, nets: &[Wire], places: &[usize]) -> Result<Items<Wire>, NoMemory>
+    requires { Each (λ (w : Wire). w.number < length places.now) nets.now }
+    ensures { IfOk result (λ made. made ≡ map (placed (slice_index places.now)) nets.now) }
+{
+    let mut made = Items::new(alloc);
+    for net in nets {
+        made.push(wire_placed(*net, places))?;
+    }
+    Ok(made)
+}
+
+/// The list once more.
+fn copied(alloc: Global, flags: &[bool]) -> Result<Items<bool>, NoMemory>
+    ensures { IfOk result (λ made. made ≡ flags.now) }
+{
+    let mut made = Items::new(alloc);
+    for flag in flags {
+        made.push(*flag)?;
+    }
+    Ok(made)
+}
+
+/// The instance over the numbers of the finished module.
+fn instance_under(
+    alloc: Global,
+    instance: &Instance,
+    places: &[usize],
+) -> Result<Instance, NoMemory>
+    requires { Each (λ (w : Wire). w.number < length places.now) instance.now.nets }
+    ensures { IfOk result (λ made. made ≡ instance_placed (slice_index places.now) instance.now) }
+{
+    let name = instance.name.copy(alloc)?;
+    let module = instance.module.copy(alloc)?;
+    let nets = nets_under(alloc, instance.nets.as_slice(), places)?;
+    let drives = copied(alloc, instance.drives.as_slice())?;
+    Ok(Instance {
+        name,
+        module,
+        nets,
+        drives,
+    })
+}
+
+/// The instances over the numbers of the finished module.
+fn instances_under(
+    alloc: Global,
+    instances: &[Instance],
+    places: &[usize],
+) -> Result<Vec<Instance>, NoMemory>
+    requires { Each (λ (i : Instance). Each (λ (w : Wire). w.number < length places.now) i.nets) instances.now }
+    ensures { IfOk result (λ made. made.items ≡ map (instance_placed (slice_index places.now)) instances.now) }
+{
+    let mut made = Vec::new(alloc);
+    for instance in instances {
+        made.push(instance_under(alloc, instance, places)?)?;
+    }
+    Ok(made)
+}
+
+/// The finished module of these nets, what drives them, and these instances.
 pub(crate) fn finished(
     alloc: Global,
     name: NetName,
-    nets: &[FlatNet],
+    nets: &[ModuleNet],
     assigns: &[Assign],
     nexts: &[Next],
+    instances: &[Instance],
 ) -> Result<Module, NoMemory>
-    requires name { IsNetName name }
-    requires wired { IsWired nets.now assigns.now nexts.now }
-    requires driven { IsDriven nets.now assigns.now nexts.now }
+    requires draft { IsDraft (record { name = name; nets = nets.now; assigns = assigns.now; nexts = nexts.now; instances = instances.now }) (wire_count nets.now) }
+    requires driven { IsDriven nets.now assigns.now nexts.now instances.now }
     requires port { 0 < length (ports_among nets.now) }
-    ensures { IfOk result (IsFinished (record { name = name; nets = nets.now; assigns = assigns.now; nexts = nexts.now })) }
+    ensures { IfOk result (IsFinished (record { name = name; nets = nets.now; assigns = assigns.now; nexts = nexts.now; instances = instances.now })) }
 {
     let ports = ports_of(alloc, nets)?;
     let wires = wires_of(alloc, nets)?;
@@ -262,5 +323,6 @@ pub(crate) fn finished(
     let places = places.as_slice();
     let assigns = assigns_under(alloc, assigns, places)?;
     let nexts = nexts_under(alloc, nexts, places)?;
-    Ok(Module::of_parts(name, ports, wires, regs, assigns, nexts))
+    let instances = instances_under(alloc, instances, places)?;
+    Ok(Module::of_parts(name, ports, wires, regs, assigns, nexts, instances))
 }

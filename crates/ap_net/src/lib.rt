@@ -4,14 +4,13 @@
 pub mod builder;
 pub mod cell;
 mod finish;
-pub mod memory;
 pub mod module;
 pub mod name;
 pub mod net;
 pub mod solve;
 pub mod write;
 
-pub use memory::NoMemory;
+pub use ap_bits::NoMemory;
 
 #[cfg(test)]
 mod tests;

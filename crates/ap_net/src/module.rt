@@ -1,15 +1,16 @@
-ghost use Rattle.std.specs.Prelude.{◌≡◌, ◌<◌, ◌∷◌, [], length, codes, IfOk, OnOk};
+ghost use Rattle.std.specs.Prelude.{◌≡◌, ◌<◌, ◌∷◌, [], length, codes, IfOk};
 ghost use Rattle.ap_net.specs.Modules.{IsNetlist, nets_of, nets_among, name_at, reset_at, IsModule};
 
 use crate::NoMemory;
 use crate::name::NetName;
-use crate::net::{Assign, Net, Next, Port, RegNet};
+use crate::net::{Assign, Instance, Net, Next, Port, RegNet};
 use std::alloc::Global;
 use std::marker::Model;
 
-/// A finished module: its ports after `clk` and `rst`, its wires, its registers, what drives them, each list in the order
-/// of the text's lines. Nets are numbered through the ports, then the wires, then the registers. A module keeps in its
-/// type that it is wired rightly, that every net which isn't an input has its driver, and that it has a port.
+/// A finished module: its ports after `clk` and `rst`, its wires, its registers, what drives them, and its instances, each
+/// list in the order of the text's lines. Nets are numbered through the ports, then the wires, then the registers. A module
+/// keeps in its type that it is wired rightly, that every net which isn't an input has its driver, that it has a port, and
+/// that it has no instances where it isn't named `top`.
 #[derive(Drop)]
 pub struct Module {
     name: NetName,
@@ -18,6 +19,7 @@ pub struct Module {
     regs: Vec<RegNet>,
     assigns: Vec<Assign>,
     nexts: Vec<Next>,
+    instances: Vec<Instance>,
 }
 
 impl Model for Module {
@@ -25,9 +27,9 @@ impl Model for Module {
 
     ghost Value = { ModuleText };
 
-    ghost view = { λ m. record { name = m.name; ports = m.ports.items; wires = m.wires.items; regs = m.regs.items; assigns = m.assigns.items; nexts = m.nexts.items } };
+    ghost view = { λ m. record { name = m.name; ports = m.ports.items; wires = m.wires.items; regs = m.regs.items; assigns = m.assigns.items; nexts = m.nexts.items; instances = m.instances.items } };
 
-    ghost invariant = { λ m. IsModule (record { name = m.name; ports = m.ports.items; wires = m.wires.items; regs = m.regs.items; assigns = m.assigns.items; nexts = m.nexts.items }) };
+    ghost invariant = { λ m. IsModule (record { name = m.name; ports = m.ports.items; wires = m.wires.items; regs = m.regs.items; assigns = m.assigns.items; nexts = m.nexts.items; instances = m.instances.items }) };
 }
 
 /// The name of a net among ports, wires and registers, numbered through in this order.
@@ -69,9 +71,10 @@ impl Module {
         regs: Vec<RegNet>,
         assigns: Vec<Assign>,
         nexts: Vec<Next>,
+        instances: Vec<Instance>,
     ) -> Module
-        requires { IsModule (record { name = name; ports = ports.items; wires = wires.items; regs = regs.items; assigns = assigns.items; nexts = nexts.items }) }
-        ensures { result ≡ record { name = name; ports = ports.items; wires = wires.items; regs = regs.items; assigns = assigns.items; nexts = nexts.items } }
+        requires { IsModule (record { name = name; ports = ports.items; wires = wires.items; regs = regs.items; assigns = assigns.items; nexts = nexts.items; instances = instances.items }) }
+        ensures { result ≡ record { name = name; ports = ports.items; wires = wires.items; regs = regs.items; assigns = assigns.items; nexts = nexts.items; instances = instances.items } }
     {
         Module {
             name,
@@ -80,6 +83,7 @@ impl Module {
             regs,
             assigns,
             nexts,
+            instances,
         }
     }
 
@@ -147,9 +151,17 @@ impl Module {
     {
         &self.nexts
     }
+
+    /// The instances of earlier modules.
+    pub fn instances(&self) -> &[Instance]
+        ensures { result.now ≡ self.now.instances }
+    {
+        &self.instances
+    }
 }
 
-/// A netlist: today the one module `top`.
+/// A netlist: modules of different names, the last of which is `top`. It keeps in its type that the instances of `top` are of
+/// earlier modules, connect all their ports in order with the right widths, and say rightly which of them are outputs.
 #[derive(Drop)]
 pub struct Netlist {
     modules: Vec<Module>,
@@ -167,9 +179,18 @@ impl Model for Netlist {
 }
 
 impl Netlist {
-    /// The netlist of a module `top` alone.
+    /// The netlist of these modules.
+    pub fn new(modules: Vec<Module>) -> Netlist
+        requires { IsNetlist modules.items }
+        ensures { result ≡ modules.items }
+    {
+        Netlist { modules }
+    }
+
+    /// The netlist of a module `top` alone, which has no instances.
     pub fn of_top(alloc: Global, top: Module) -> Result<Netlist, NoMemory>
-        requires { top.name ≡ codes "top" }
+        requires name { top.name ≡ codes "top" }
+        requires alone { top.instances ≡ [] }
         ensures { IfOk result (λ net. net ≡ top ∷ []) }
     {
         let _ = &top.name;

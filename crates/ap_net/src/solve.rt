@@ -1,4 +1,4 @@
-ghost use Rattle.ap_net.specs.Flat.{NamesAreFound, RegistersAreFound};
+ghost use Rattle.ap_net.specs.Flat.{NamesAreFound, RegistersAreFound, NetlistsOpen};
 ghost use Rattle.ap_net.specs.Sources.{AlwaysSolvable, SolvedOnce, AgreeingAreEqual};
 
 /// Whatever inputs and registers are given, in some order that no net leads back to itself, the equations of a netlist
@@ -19,4 +19,9 @@ pub fn solution_is_unique()
 pub fn names_are_found()
     ensures nets { NamesAreFound }
     ensures registers { RegistersAreFound }
+{}
+
+/// An opened netlist is well formed: the laws on solutions and on names hold of it.
+pub fn netlists_open()
+    ensures { NetlistsOpen }
 {}

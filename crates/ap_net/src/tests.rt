@@ -13,7 +13,8 @@ use std::test::Fail;
 
 /// The text of a netlist of this one module.
 fn text_of(alloc: Global, top: Module) -> Result<Vec<u8>, NoMemory>
-    requires { top.name ≡ codes "top" }
+    requires name { top.name ≡ codes "top" }
+    requires alone { top.instances ≡ [] }
 {
     let net = Netlist::of_top(alloc, top)?;
     let mut text = Vec::new(alloc);

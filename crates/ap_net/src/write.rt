@@ -1,4 +1,4 @@
-ghost use Rattle.std.specs.Prelude.{◌≡◌, ◌≤◌, ◌<◌, ◌++◌, length, OnOk, OnErr, IfOk, codes};
+ghost use Rattle.std.specs.Prelude.{◌≡◌, ◌≤◌, ◌<◌, ◌++◌, length, Some, None, OnOk, OnErr, IfOk, IfSome, IfNone, codes};
 ghost use Rattle.std.specs.List.{flat_map, AllByRecursion as Each};
 ghost use Rattle.std.specs.String.{string_bytes};
 ghost use Rattle.ap_net.specs.declared.cell.Wire.{Wire};
@@ -8,13 +8,14 @@ ghost use Rattle.ap_net.specs.declared.net.RegNet.{RegNet};
 ghost use Rattle.ap_net.specs.declared.net.Assign.{Assign};
 ghost use Rattle.ap_net.specs.declared.net.Next.{Next};
 ghost use Rattle.ap_net.specs.Cells.{operands};
-ghost use Rattle.ap_net.specs.Modules.{nets_of};
-ghost use Rattle.ap_net.specs.Text.{constant_text, cell_text, port_text, wire_line, reg_line, assign_line, taken_text, clocked_text, always_line, sign, module_text, AppendsFront};
+ghost use Rattle.ap_net.specs.declared.net.Instance.{Instance};
+ghost use Rattle.ap_net.specs.Modules.{nets_of, module_named, IsInstanceIn};
+ghost use Rattle.ap_net.specs.Text.{constant_text, cell_text, port_text, wire_line, reg_line, assign_line, taken_text, clocked_text, always_line, sign, ports_in, connection_text, connections_text, instance_line, module_text, netlist_text, AppendsFront};
 
 use crate::NoMemory;
-use crate::cell::{Cell, TwoOp};
+use crate::cell::{Cell, TwoOp, Wire};
 use crate::module::{Module, Netlist};
-use crate::net::{Assign, Net, Next, Port, RegNet};
+use crate::net::{Assign, Instance, Net, Next, Port, RegNet};
 use std::alloc::Global;
 
 /// Appends a piece of text. After an error the text is as it was.
@@ -248,9 +249,100 @@ fn put_nexts(
     Ok(())
 }
 
-/// The text of a module.
-fn module_bytes(alloc: Global, whole: &Module) -> Result<Vec<u8>, NoMemory>
-    ensures { IfOk result (λ text. text.items ≡ module_text whole.now) }
+/// Appends a port of an instance with the net that it is connected to.
+fn put_connection(alloc: Global, port: &Port, net: &str, out: &mut Vec<u8>) -> Result<(), NoMemory>
+    ensures { OnOk result (out.new.items ≡ out.old.items ++ connection_text port.now net.now) }
+{
+    let name = port.name.as_str();
+    let text = format!(in alloc; ", .{name}({net})")?;
+    put(text.as_str(), out)
+}
+
+/// Appends the ports of an instance, each with the net that it is connected to.
+fn put_connections(
+    alloc: Global,
+    whole: &Module,
+    ports: &[Port],
+    nets: &[Wire],
+    out: &mut Vec<u8>,
+) -> Result<(), NoMemory>
+    requires same { length nets.now ≡ length ports.now }
+    requires nets { Each (λ (w : Wire). w.number < length (nets_of whole.now)) nets.now }
+    ensures { OnOk result (out.new.items ≡ out.old.items ++ connections_text (nets_of whole.now) ports.now nets.now) }
+{
+    for (i, port) in ports.iter().enumerate() {
+        put_connection(alloc, port, whole.net_name(nets[i].number), out)?;
+    }
+    Ok(())
+}
+
+/// The first of these modules that has this name.
+fn find_module<'a>(modules: &'a [Module], name: &str) -> Option<&'a Module>
+    ensures some { IfSome result (λ m. module_named modules.now name.now ≡ Some m.now) }
+    ensures none { IfNone result (module_named modules.now name.now ≡ None) }
+{
+    for whole in modules {
+        if whole.name().as_str() == name {
+            return Some(whole);
+        }
+    }
+    None
+}
+
+/// The ports of the first of these modules that has this name.
+fn ports_named<'a>(modules: &'a [Module], name: &str) -> &'a [Port]
+    ensures { result.now ≡ ports_in (module_named modules.now name.now) }
+{
+    match find_module(modules, name) {
+        Some(whole) => whole.ports(),
+        None => &[],
+    }
+}
+
+/// Appends the line of an instance of one of these modules.
+fn put_instance(
+    alloc: Global,
+    modules: &[Module],
+    whole: &Module,
+    instance: &Instance,
+    out: &mut Vec<u8>,
+) -> Result<(), NoMemory>
+    requires same { length instance.now.nets ≡ length (ports_in (module_named modules.now instance.now.module)) }
+    requires nets { Each (λ (w : Wire). w.number < length (nets_of whole.now)) instance.now.nets }
+    ensures { OnOk result (out.new.items ≡ out.old.items ++ instance_line modules.now (nets_of whole.now) instance.now) }
+{
+    let module = instance.module.as_str();
+    let name = instance.name.as_str();
+    let first = format!(in alloc; "  {module} {name} (.clk(clk), .rst(rst)")?;
+    put(first.as_str(), out)?;
+    let ports = ports_named(modules, module);
+    put_connections(alloc, whole, ports, instance.nets.as_slice(), out)?;
+    put(");\n", out)?;
+    Ok(())
+}
+
+/// Appends the lines of instances.
+fn put_instances(
+    alloc: Global,
+    modules: &[Module],
+    whole: &Module,
+    instances: &[Instance],
+    out: &mut Vec<u8>,
+) -> Result<(), NoMemory>
+    requires same { Each (λ (i : Instance). length i.nets ≡ length (ports_in (module_named modules.now i.module))) instances.now }
+    requires nets { Each (λ (i : Instance). Each (λ (w : Wire). w.number < length (nets_of whole.now)) i.nets) instances.now }
+    ensures { OnOk result (out.new.items ≡ out.old.items ++ flat_map (instance_line modules.now (nets_of whole.now)) instances.now) }
+{
+    for instance in instances {
+        put_instance(alloc, modules, whole, instance, out)?;
+    }
+    Ok(())
+}
+
+/// The text of a module, whose instances are of these other modules.
+fn module_bytes(alloc: Global, modules: &[Module], whole: &Module) -> Result<Vec<u8>, NoMemory>
+    requires { Each (IsInstanceIn modules.now) whole.now.instances }
+    ensures { IfOk result (λ text. text.items ≡ module_text modules.now whole.now) }
 {
     whole.rules();
     let name = whole.name().as_str();
@@ -263,18 +355,21 @@ fn module_bytes(alloc: Global, whole: &Module) -> Result<Vec<u8>, NoMemory>
     put_regs(alloc, whole.regs(), &mut text)?;
     put_assigns(alloc, whole, whole.assigns(), &mut text)?;
     put_nexts(alloc, whole, whole.nexts(), &mut text)?;
+    put_instances(alloc, modules, whole, whole.instances(), &mut text)?;
     put("endmodule\n", &mut text)?;
     Ok(text)
 }
 
 /// Appends the one spelling of a netlist. After an error a front of it was appended.
 pub fn write(alloc: Global, net: &Netlist, out: &mut Vec<u8>) -> Result<(), NoMemory>
-    ensures ok { OnOk result (out.new.items ≡ out.old.items ++ flat_map module_text net.now) }
-    ensures err { OnErr result (AppendsFront (flat_map module_text net.now) out.old.items out.new.items) }
+    ensures ok { OnOk result (out.new.items ≡ out.old.items ++ netlist_text net.now) }
+    ensures err { OnErr result (AppendsFront (netlist_text net.now) out.old.items out.new.items) }
 {
+    net.rules();
     let modules = net.modules();
+    let earlier = &modules[..modules.len() - 1];
     for whole in modules {
-        let text = module_bytes(alloc, whole)?;
+        let text = module_bytes(alloc, earlier, whole)?;
         out.extend_from_slice(&text)?;
     }
     Ok(())

@@ -4,5 +4,6 @@ pub mod Calls
 pub mod Matching
 pub mod Stopping
 pub mod TwoStage
+pub mod Adder
 pub mod Behaviour
 pub mod Sure

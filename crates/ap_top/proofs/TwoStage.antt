@@ -1,12 +1,15 @@
-use Rattle.std.proofs.Common.{◌≡◌, ℕ, zero, suc, ◌<◌, ◌^◌, List, [], ◌∷◌, ◌++◌, Bool, true, false, Option, Some, None, refl, ap, subst, ◌∙◌, arith, lit<}
+use Rattle.std.proofs.Common.{◌≡◌, ◌≢◌, ℕ, zero, suc, ◌<◌, ◌^◌, List, [], ◌∷◌, ◌++◌, Bool, true, false, Option, Some, None, refl, ap, subst, ◌∙◌, arith, lit<}
 use Rattle.std.specs.List.{AllByRecursion as Each}
-use Rattle.std.specs.Prelude.{slice_index, slice_get, ◌==◌, if◌then◌else◌, bit_and}
+use Rattle.std.specs.Prelude.{slice_index, slice_get, ◌==◌, if◌then◌else◌, bit_and, codes, IsTrue}
 use Rattle.std.proofs.lemmas.Nat.{pow_pos}
 use Rattle.ap_net.specs.declared.net.Role.TheVariants as role
-use Rattle.ap_net.specs.declared.net.FlatNet.{FlatNet}
+use Rattle.ap_net.specs.declared.net.ModuleNet.{ModuleNet}
 use Rattle.ap_net.specs.declared.net.Next.{Next}
 use Rattle.ap_net.specs.Wiring.{IsSource, reset_of, Ranked, Unclocked, IsDriven}
-use Rattle.ap_net.specs.Draft.{Draft, AreDriven, RegistersBelow}
+use Rattle.ap_net.specs.Modules.{ModuleText}
+use Rattle.ap_net.specs.Names.{numbered}
+use Rattle.ap_net.specs.Draft.{Draft, AreDriven, RegistersBelow, CanFresh}
+use Rattle.ap_net.proofs.Laws.{IsNotNumbered-other, is_other_letter}
 use Rattle.ap_net.specs.Runs.{bit}
 use Rattle.ap_top.specs.declared.form.Form.{Form}
 use Rattle.ap_top.specs.Machine.{State, fire, written, sum_of}
@@ -20,24 +23,24 @@ clocked_draft form d nets = record d { nexts = four_nexts form nets }
 pub same : {X : Type 0} {x y : X} → Some x ≡ Some y → x ≡ y
 same e = cc
 
-source : (x net : FlatNet) → Some x ≡ Some net → IsSource x.role → (IsSource net.role → ⊥) → ⊥
-source x net at is free = free (subst (λ (y : FlatNet). IsSource y.role) (same at) is)
+source : (x net : ModuleNet) → Some x ≡ Some net → IsSource x.role → (IsSource net.role → ⊥) → ⊥
+source x net at is free = free (subst (λ (y : ModuleNet). IsSource y.role) (same at) is)
 
 -- every port of the base is driven
 base_driven : (form : Form) → AreDriven (base form)
-base_driven form zero net at free none = source _ net at tt free
-base_driven form (suc zero) net at free none = source _ net at tt free
-base_driven form (suc (suc zero)) net at free none = source _ net at tt free
-base_driven form (suc (suc (suc zero))) net at free none = source _ net at tt free
-base_driven form (suc (suc (suc (suc zero)))) net at free none = none.0 refl
-base_driven form (suc (suc (suc (suc (suc zero))))) net at free none = source _ net at tt free
-base_driven form (suc (suc (suc (suc (suc (suc zero)))))) net at free none = source _ net at tt free
-base_driven form (suc (suc (suc (suc (suc (suc (suc zero))))))) net at free none = none.1.0 refl
-base_driven form (suc (suc (suc (suc (suc (suc (suc (suc zero)))))))) net at free none = none.1.1.0 refl
-base_driven form (suc (suc (suc (suc (suc (suc (suc (suc (suc n))))))))) net at free none = cc
+base_driven form zero net at free none unjoined = source _ net at tt free
+base_driven form (suc zero) net at free none unjoined = source _ net at tt free
+base_driven form (suc (suc zero)) net at free none unjoined = source _ net at tt free
+base_driven form (suc (suc (suc zero))) net at free none unjoined = source _ net at tt free
+base_driven form (suc (suc (suc (suc zero)))) net at free none unjoined = none.0 refl
+base_driven form (suc (suc (suc (suc (suc zero))))) net at free none unjoined = source _ net at tt free
+base_driven form (suc (suc (suc (suc (suc (suc zero)))))) net at free none unjoined = source _ net at tt free
+base_driven form (suc (suc (suc (suc (suc (suc (suc zero))))))) net at free none unjoined = none.1.0 refl
+base_driven form (suc (suc (suc (suc (suc (suc (suc (suc zero)))))))) net at free none unjoined = none.1.1.0 refl
+base_driven form (suc (suc (suc (suc (suc (suc (suc (suc (suc n))))))))) net at free none unjoined = cc
 
-port : (x net : FlatNet) → Some x ≡ Some net → (x.role ≡ role.Register (reset_of net.role) → ⊥) → net.role ≡ role.Register (reset_of net.role) → ⊥
-port x net at never is = never (ap (λ (y : FlatNet). y.role) (same at) ∙ is)
+port : (x net : ModuleNet) → Some x ≡ Some net → (x.role ≡ role.Register (reset_of net.role) → ⊥) → net.role ≡ role.Register (reset_of net.role) → ⊥
+port x net at never is = never (ap (λ (y : ModuleNet). y.role) (same at) ∙ is)
 
 -- only the first four nets are registers
 base_registers : (form : Form) → RegistersBelow (base_nets form) 4
@@ -61,8 +64,8 @@ four_clocked form nets (suc (suc (suc zero))) lt none = none.1.1.1.0 refl
 four_clocked form nets (suc (suc (suc (suc n)))) lt none = absurd (omega arith)
 
 -- every net of the processor has its driver
-pub clocked-IsDriven : (form : Form) (d : Draft) (nets : Nets) → IsShown form d nets → IsDriven d.nets d.assigns (four_nexts form nets)
-clocked-IsDriven form d nets s = record {
+pub clocked-IsDriven : (form : Form) (adder : ModuleText) (d : Draft) (nets : Nets) → IsShown form adder d nets → IsDriven d.nets d.assigns (four_nexts form nets) d.instances
+clocked-IsDriven form adder d nets s = record {
   driven = s.closes.driven (base_driven form);
   clocked = λ n net at is none. four_clocked form nets n (s.closes.registers 4 (base_registers form) n net at is) none;
 }
@@ -108,14 +111,14 @@ word_fits (word ∷ words) width zero h = h.0
 word_fits (word ∷ words) width (suc n) h = word_fits words width n h.1
 
 pub given_fits : (form : Form) (code : List ℕ) (wait : Bool) (r : List ℕ) → Each (λ word. word < 2 ^ form.word) code → FourFit form r
-    → (n address : ℕ) (net : FlatNet) → ((x : FlatNet) → slice_get (base_nets form) n ≡ Some x → x ≡ net) → given code wait r n address < 2 ^ net.width
-given_fits form code wait r h f zero address net is = subst (λ (x : FlatNet). slice_index r 0 < 2 ^ x.width) (is _ refl) f.pc
-given_fits form code wait r h f (suc zero) address net is = subst (λ (x : FlatNet). slice_index r 1 < 2 ^ x.width) (is _ refl) f.register
-given_fits form code wait r h f (suc (suc zero)) address net is = subst (λ (x : FlatNet). slice_index r 2 < 2 ^ x.width) (is _ refl) f.valid
-given_fits form code wait r h f (suc (suc (suc zero))) address net is = subst (λ (x : FlatNet). slice_index r 3 < 2 ^ x.width) (is _ refl) f.word
+    → (n address : ℕ) (net : ModuleNet) → ((x : ModuleNet) → slice_get (base_nets form) n ≡ Some x → x ≡ net) → given code wait r n address < 2 ^ net.width
+given_fits form code wait r h f zero address net is = subst (λ (x : ModuleNet). slice_index r 0 < 2 ^ x.width) (is _ refl) f.pc
+given_fits form code wait r h f (suc zero) address net is = subst (λ (x : ModuleNet). slice_index r 1 < 2 ^ x.width) (is _ refl) f.register
+given_fits form code wait r h f (suc (suc zero)) address net is = subst (λ (x : ModuleNet). slice_index r 2 < 2 ^ x.width) (is _ refl) f.valid
+given_fits form code wait r h f (suc (suc (suc zero))) address net is = subst (λ (x : ModuleNet). slice_index r 3 < 2 ^ x.width) (is _ refl) f.word
 given_fits form code wait r h f (suc (suc (suc (suc zero)))) address net is = pow_pos net.width
-given_fits form code wait r h f (suc (suc (suc (suc (suc zero))))) address net is = subst (λ (x : FlatNet). slice_index code address < 2 ^ x.width) (is _ refl) (word_fits code form.word address h)
-given_fits form code wait r h f (suc (suc (suc (suc (suc (suc zero)))))) address net is = subst (λ (x : FlatNet). bit wait < 2 ^ x.width) (is _ refl) (bit_fits wait)
+given_fits form code wait r h f (suc (suc (suc (suc (suc zero))))) address net is = subst (λ (x : ModuleNet). slice_index code address < 2 ^ x.width) (is _ refl) (word_fits code form.word address h)
+given_fits form code wait r h f (suc (suc (suc (suc (suc (suc zero)))))) address net is = subst (λ (x : ModuleNet). bit wait < 2 ^ x.width) (is _ refl) (bit_fits wait)
 given_fits form code wait r h f (suc (suc (suc (suc (suc (suc (suc n))))))) address net is = pow_pos net.width
 
 -- the valid bit and the word by their places
@@ -151,3 +154,14 @@ pub pushed_four : (d d1 d2 d3 d4 : Draft) (a b c e : Next) → d.nexts ≡ [] �
 pushed_four d d1 d2 d3 d4 a b c e none e1 e2 e3 e4 =
     let more : Next → Draft → Draft = λ n x. record x { nexts = x.nexts ++ n ∷ [] } in
     e4 ∙ ap (more e) (e3 ∙ ap (more c) (e2 ∙ ap (more b) e1)) ∙ ap (λ (ns : List Next). record d { nexts = (((ns ++ a ∷ []) ++ b ∷ []) ++ c ∷ []) ++ e ∷ [] }) none
+
+-- further wires can be had over the base
+pub base_fresh : (form : Form) → CanFresh (base form)
+base_fresh form = record {
+  free = λ k low high.
+      let other : (name : List ℕ) → IsTrue (is_other_letter name) → name ≢ numbered k = λ name h e. IsNotNumbered-other name h k high e in (
+        other (codes "clk") refl,
+        (other (codes "rst") refl, (other (codes "pc") refl, (other (codes "r_R") refl, (other (codes "v_1") refl, (other (codes "x_1") refl,
+        (other (codes "iaddr") refl, (other (codes "idata") refl, (other (codes "mwait") refl, (other (codes "stall") refl, (other (codes "kill") refl, tt)))))))))),
+      );
+}

@@ -4,14 +4,16 @@ use Rattle.std.specs.Prelude.{◌≡◌, ℕ, ◌+◌, ◌%◌, ◌^◌, ◌==�
 use Rattle.ap_net.specs.declared.cell.Wire.{Wire}
 use Rattle.ap_net.specs.declared.cell.Cell.TheVariants as cell
 use Rattle.ap_net.specs.declared.net.Role.TheVariants.{Input, Output, Register}
-use Rattle.ap_net.specs.declared.net.FlatNet.{FlatNet}
+use Rattle.ap_net.specs.declared.net.ModuleNet.{ModuleNet}
 use Rattle.ap_net.specs.declared.net.Assign.{Assign}
 use Rattle.ap_net.specs.Cells.{IsNet}
-use Rattle.ap_net.specs.Draft.{Draft, Adds, Closes, Makes, SettlesDraft}
-use Rattle.ap_net.specs.Modules.{ports_among}
+use Rattle.ap_net.specs.declared.net.Instance.{Instance}
+use Rattle.ap_net.specs.Draft.{Draft, Adds, Closes, SettlesOpen}
+use Rattle.ap_net.specs.Placing.{Places}
+use Rattle.ap_net.specs.Modules.{ModuleText, IsNetlist, Connects, module_named, ports_among}
 use Rattle.ap_net.specs.Outside.{ports_of}
 use Rattle.ap_net.specs.declared.net.Next.{Next}
-use Rattle.ap_top.specs.Processor.{outside_of}
+use Rattle.ap_top.specs.Processor.{outside_of, IsDesign}
 use Rattle.ap_top.specs.declared.form.Form.{Form}
 
 -- a declared net
@@ -19,15 +21,15 @@ abbrev pub wire : ℕ → ℕ → Wire
 wire number width = record { number = number; width = width }
 
 -- the four registers
-abbrev pub four_registers : Form → List FlatNet
+abbrev pub four_registers : Form → List ModuleNet
 four_registers form = record { name = codes "pc"; width = form.address; role = Register 0 } ∷ record { name = codes "r_R"; width = form.width; role = Register form.start }
     ∷ record { name = codes "v_1"; width = 1; role = Register 0 } ∷ record { name = codes "x_1"; width = form.word; role = Register 0 } ∷ []
 
 abbrev pub registers_alone : Form → Draft
-registers_alone form = record { name = codes "top"; nets = four_registers form; assigns = []; nexts = [] }
+registers_alone form = record { name = codes "top"; nets = four_registers form; assigns = []; nexts = []; instances = [] }
 
 -- and the first five ports
-abbrev pub base_nets : Form → List FlatNet
+abbrev pub base_nets : Form → List ModuleNet
 base_nets form = record { name = codes "pc"; width = form.address; role = Register 0 } ∷ record { name = codes "r_R"; width = form.width; role = Register form.start }
     ∷ record { name = codes "v_1"; width = 1; role = Register 0 } ∷ record { name = codes "x_1"; width = form.word; role = Register 0 }
     ∷ record { name = codes "iaddr"; width = form.address; role = Output } ∷ record { name = codes "idata"; width = form.word; role = Input } ∷ record { name = codes "mwait"; width = 1; role = Input }
@@ -38,7 +40,7 @@ abbrev pub base_assigns : Form → List Assign
 base_assigns form = record { to = wire 4 form.address; cell = cell.Copy (wire 0 form.address) } ∷ record { to = wire 7 1; cell = cell.Const 0 } ∷ record { to = wire 8 1; cell = cell.Const 0 } ∷ []
 
 abbrev pub base : Form → Draft
-base form = record { name = codes "top"; nets = base_nets form; assigns = base_assigns form; nexts = [] }
+base form = record { name = codes "top"; nets = base_nets form; assigns = base_assigns form; nexts = []; instances = [] }
 
 -- the nets of the circuit that the rest reads
 pub record Nets : Type 0 where
@@ -59,18 +61,28 @@ pub record Equations (form : Form) (nets : Nets) (read : ℕ → ℕ) : Type 0 w
   pub written : read nets.written.number ≡ (if read nets.enable.number == 1 then read nets.sum.number else read 1)
   pub one : read nets.one.number ≡ 1
 
--- the circuit stands in the draft, over the base
-pub record IsCircuit (form : Form) (d : Draft) (nets : Nets) : Type 0 where
-  pub makes : Makes (base form) d
+-- the instance of the adder over these nets of the circuit
+abbrev pub IsUnit : ModuleText → Instance → Type 0
+IsUnit adder i = (i.name ≡ codes "u_U") × Connects adder i
+
+-- The circuit stands in the draft, over the base, with one instance of the adder. Its equations hold in every solution in which
+-- the instance's part solves the adder.
+pub record IsCircuit (form : Form) (adder : ModuleText) (d : Draft) (nets : Nets) : Type 0 where
+  pub unit : Instance
+  pub is_unit : IsUnit adder unit
+  pub places : Places (unit ∷ []) (base form) d
   pub next_address : IsNet d.nets nets.next_address × (nets.next_address.width ≡ form.address)
   pub enable : IsNet d.nets nets.enable × (nets.enable.width ≡ 1)
   pub sum : IsNet d.nets nets.sum × (nets.sum.width ≡ form.width)
   pub written : IsNet d.nets nets.written × (nets.written.width ≡ form.width)
   pub one : IsNet d.nets nets.one × (nets.one.width ≡ 1)
-  pub equations : (read : ℕ → ℕ) → SettlesDraft d read → Equations form nets read
+  pub equations : (modules : List ModuleText) → module_named modules adder.name ≡ Some adder → (read : ℕ → ℕ) (parts : ℕ → ℕ → ℕ) → SettlesOpen modules d read parts → Equations form nets read
 
 -- the write group is shown besides: its two ports stand at these numbers
-pub record IsShown (form : Form) (d : Draft) (nets : Nets) : Type 0 where
+pub record IsShown (form : Form) (adder : ModuleText) (d : Draft) (nets : Nets) : Type 0 where
+  pub unit : Instance
+  pub is_unit : IsUnit adder unit
+  pub instances : d.instances ≡ unit ∷ []
   pub adds : Adds (base form) d
   pub closes : Closes (base form) d
   pub next_address : IsNet d.nets nets.next_address × (nets.next_address.width ≡ form.address)
@@ -81,9 +93,15 @@ pub record IsShown (form : Form) (d : Draft) (nets : Nets) : Type 0 where
   pub write_value : ℕ
   pub enable_there : slice_get d.nets write_enable ≡ Some (record { name = codes "w_R_e"; width = 1; role = Output })
   pub value_there : slice_get d.nets write_value ≡ Some (record { name = codes "w_R_v"; width = form.width; role = Output })
-  pub equations : (read : ℕ → ℕ) → SettlesDraft d read → Equations form nets read × (read write_enable ≡ read nets.enable.number) × (read write_value ≡ read nets.sum.number)
+  pub equations : (modules : List ModuleText) → module_named modules adder.name ≡ Some adder → (read : ℕ → ℕ) (parts : ℕ → ℕ → ℕ) → SettlesOpen modules d read parts
+      → Equations form nets read × (read write_enable ≡ read nets.enable.number) × (read write_value ≡ read nets.sum.number)
 
 -- what the four registers take
 abbrev pub four_nexts : Form → Nets → List Next
 four_nexts form nets = record { register = wire 0 form.address; from = nets.next_address } ∷ record { register = wire 1 form.width; from = nets.written }
     ∷ record { register = wire 2 1; from = nets.one } ∷ record { register = wire 3 form.word; from = wire 5 form.word } ∷ []
+
+-- the finished module top, beside the adder: they are a netlist, and do what the machine does
+pub record IsTop (form : Form) (adder m : ModuleText) : Type 0 where
+  pub netlist : IsNetlist (adder ∷ m ∷ [])
+  pub design : IsDesign form (adder ∷ m ∷ [])

@@ -1,6 +1,6 @@
 -- A worked example: the first rows of one small processor, computed from the definitions.
 use Rattle.std.specs.Prelude.{◌≡◌, ℕ, List, [], ◌∷◌, map, codes, None, false}
-use Rattle.ap_net.specs.Outside.{Image}
+use Rattle.ap_image.specs.declared.image.Image.{Image}
 use Rattle.ap_net.specs.Rows.{Row}
 use Rattle.ap_top.specs.declared.form.Form.{Form}
 use Rattle.ap_top.specs.Machine.{row}
@@ -26,4 +26,4 @@ writing value = record { stall = false; kill = false; writes = record { group = 
 
 -- cycle 0 fetches the first word; cycles 1 and 2 add modulo 256: 3 + 250 is 253, and 253 + 250 is 247; then nothing is written
 abbrev pub ExampleRows : Type 0
-ExampleRows = map (row example_form example_image []) (0 ∷ 1 ∷ 2 ∷ 3 ∷ []) ≡ quiet ∷ writing 253 ∷ writing 247 ∷ quiet ∷ []
+ExampleRows = map (row example_form example_image (record { lines = [] })) (0 ∷ 1 ∷ 2 ∷ 3 ∷ []) ≡ quiet ∷ writing 253 ∷ writing 247 ∷ quiet ∷ []

@@ -2,7 +2,8 @@
 -- word at the pc; stage 1 performs the word's instruction. These are the project's own rules of overlapped execution, for the
 -- form alone: nothing of it waits or transfers.
 use Rattle.std.specs.Prelude.{ℕ, zero, suc, ◌+◌, ◌%◌, ◌^◌, ◌==◌, if◌then◌else◌, List, [], ◌∷◌, Option, Some, None, false, slice_index}
-use Rattle.ap_net.specs.Outside.{Image, TraceLine}
+use Rattle.ap_image.specs.declared.image.Image.{Image}
+use Rattle.ap_image.specs.declared.trace.Trace.{Trace}
 use Rattle.ap_net.specs.Rows.{Row, Write}
 use Rattle.ap_top.specs.declared.form.Form.{Form}
 
@@ -39,7 +40,7 @@ cycle form image state = record {
 }
 
 -- the state after c cycles; no line of the trace matters, since nothing waits and nothing is read from outside
-abbrev pub over : Form → Image → List TraceLine → ℕ → State
+abbrev pub over : Form → Image → Trace → ℕ → State
 over form image trace zero = start form
 over form image trace (suc c) = cycle form image (over form image trace c)
 
@@ -49,5 +50,5 @@ writes_of None = []
 writes_of (Some value) = record { group = 0; index = None; value = value } ∷ []
 
 -- the row of cycle j
-abbrev pub row : Form → Image → List TraceLine → ℕ → Row
+abbrev pub row : Form → Image → Trace → ℕ → Row
 row form image trace j = let state = over form image trace j in record { stall = false; kill = false; writes = writes_of (fire form state.register state.stage) }

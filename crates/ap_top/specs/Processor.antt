@@ -1,6 +1,9 @@
 -- What a netlist must do to be the processor of a first form: for every image, every trace and every number of cycles.
 use Rattle.std.specs.Prelude.{◌≡◌, ℕ, ◌<◌, ◌≤◌, List, [], ◌∷◌, codes, Option, Some, None}
-use Rattle.ap_net.specs.Outside.{Outside, Image, TraceLine, ImageFits, TraceFits, ports_of}
+use Rattle.ap_image.specs.declared.image.Image.{Image}
+use Rattle.ap_image.specs.declared.trace.Trace.{Trace}
+use Rattle.ap_image.specs.FitsShape.{ImageFitsShape, TraceFitsShape}
+use Rattle.ap_net.specs.Outside.{Outside, ports_of, shape_of}
 use Rattle.ap_net.specs.Modules.{ModuleText}
 use Rattle.ap_net.specs.Flat.{Flat, opened, top_ports, register_named}
 use Rattle.ap_net.specs.Runs.{NetState, Runs}
@@ -25,19 +28,14 @@ pub record Keeps (f : Flat) (state : NetState) (machine : State) : Type 0 where
 
 -- A run exists, and every run shows the machine's rows and keeps its states.
 pub record IsProcessor (form : Form) (f : Flat) : Type 0 where
-  pub exists : (image : Image) (trace : List TraceLine) (c : ℕ) → ImageFits image (outside_of form) → TraceFits trace (outside_of form)
+  pub exists : (image : Image) (trace : Trace) (c : ℕ) → ImageFitsShape image (shape_of (outside_of form)) → TraceFitsShape trace (shape_of (outside_of form))
       → (states : ℕ → NetState) × (valuations : ℕ → List ℕ) × Runs (outside_of form) f image trace c states valuations
-  pub rows : (image : Image) (trace : List TraceLine) (c : ℕ) (states : ℕ → NetState) (valuations : ℕ → List ℕ) → Runs (outside_of form) f image trace c states valuations
+  pub rows : (image : Image) (trace : Trace) (c : ℕ) (states : ℕ → NetState) (valuations : ℕ → List ℕ) → Runs (outside_of form) f image trace c states valuations
       → (j : ℕ) → j < c → shown_row (outside_of form) f (valuations j) ≡ row form image trace j
-  pub keeps : (image : Image) (trace : List TraceLine) (c : ℕ) (states : ℕ → NetState) (valuations : ℕ → List ℕ) → Runs (outside_of form) f image trace c states valuations
+  pub keeps : (image : Image) (trace : Trace) (c : ℕ) (states : ℕ → NetState) (valuations : ℕ → List ℕ) → Runs (outside_of form) f image trace c states valuations
       → (j : ℕ) → j ≤ c → Keeps f (states j) (over form image trace j)
 
 -- the modules are the form's processor: the ports of the top module are those due, and the equations do what the machine does
 pub record IsDesign (form : Form) (modules : List ModuleText) : Type 0 where
   pub ports : top_ports modules ≡ ports_of (outside_of form)
   pub behaves : IsProcessor form (opened modules)
-
--- the one module of the form's processor
-pub record IsDesignModule (form : Form) (m : ModuleText) : Type 0 where
-  pub name : m.name ≡ codes "top"
-  pub design : IsDesign form (m ∷ [])

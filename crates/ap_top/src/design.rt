@@ -5,7 +5,6 @@ ghost use Rattle.ap_top.specs.DesignText.{IsDesignText};
 use crate::NoMemory;
 use crate::form::Form;
 use crate::machine::two_stage;
-use ap_net::module::Netlist;
 use ap_net::write::write;
 use std::alloc::Global;
 
@@ -14,8 +13,7 @@ pub fn design_text(alloc: Global, form: &Form) -> Result<Vec<u8>, NoMemory>
     requires { IsForm form.now }
     ensures { IfOk result (λ text. IsDesignText form.now text.items) }
 {
-    let top = two_stage(alloc, *form)?;
-    let netlist = Netlist::of_top(alloc, top)?;
+    let netlist = two_stage(alloc, *form)?;
     netlist.rules();
     let mut text = Vec::new(alloc);
     write(alloc, &netlist, &mut text)?;

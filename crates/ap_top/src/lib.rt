@@ -17,8 +17,8 @@ pub mod serve;
 #[derive(Clone, Copy, Debug, PartialEq, Eq)]
 pub struct NoMemory;
 
-impl From<ap_net::NoMemory> for NoMemory {
-    fn from(_: ap_net::NoMemory) -> NoMemory {
+impl From<ap_bits::NoMemory> for NoMemory {
+    fn from(_: ap_bits::NoMemory) -> NoMemory {
         NoMemory
     }
 }

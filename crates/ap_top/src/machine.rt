@@ -1,17 +1,22 @@
-ghost use Rattle.std.specs.Prelude.{◌≡◌, ℕ, ◌+◌, ◌%◌, ◌^◌, ◌<◌, ◌≤◌, ◌==◌, ◌∷◌, [], if◌then◌else◌, IfOk, OnOk, bit_and};
+ghost use Rattle.std.specs.Prelude.{◌≡◌, ℕ, ◌+◌, ◌%◌, ◌^◌, ◌<◌, ◌≤◌, ◌==◌, ◌∷◌, [], List, codes, Some, if◌then◌else◌, IfOk, OnOk, bit_and};
+ghost use Rattle.ap_net.specs.declared.net.Instance.{Instance};
+ghost use Rattle.ap_net.specs.Names.{IsNew};
 ghost use Rattle.ap_net.specs.Cells.{IsNet};
-ghost use Rattle.ap_net.specs.Draft.{CanFresh, Makes, SettlesDraft};
+ghost use Rattle.ap_net.specs.Modules.{ModuleText, module_named};
+ghost use Rattle.ap_net.specs.Draft.{CanFresh, Makes, SettlesDraft, SettlesOpen, names_of};
+ghost use Rattle.ap_net.specs.Placing.{Places};
 ghost use Rattle.ap_top.specs.Form.{IsForm};
-ghost use Rattle.ap_top.specs.Base.{registers_alone, base, IsCircuit, IsShown};
+ghost use Rattle.ap_top.specs.Adder.{IsAdder};
+ghost use Rattle.ap_top.specs.Base.{registers_alone, base, IsUnit, IsCircuit, IsShown, IsTop};
 ghost use Rattle.ap_top.specs.Circuits.{nets_of};
-ghost use Rattle.ap_top.specs.Processor.{IsDesignModule};
+ghost use Rattle.ap_top.specs.Processor.{IsDesign};
 
 use crate::form::Form;
 use ap_net::NoMemory;
 use ap_net::builder::Builder;
 use ap_net::cell::{Cell, TwoOp, Wire};
-use ap_net::module::Module;
-use ap_net::solve::{names_are_found, solution_exists};
+use ap_net::module::{Module, Netlist};
+use ap_net::solve::{names_are_found, netlists_open, solution_exists};
 use std::alloc::Global;
 
 /// The registers: the pc, the description's register, and the valid bit and the word of stage 1.
@@ -51,7 +56,7 @@ fn with_ports(alloc: Global, form: Form) -> Result<Builder, NoMemory>
 /// The address after the pc's.
 #[tactic(auto, using(ap_net::proofs::Laws::laws))]
 fn make_next_address(out: &mut Builder, pc: Wire) -> Result<Wire, NoMemory>
-    requires fresh { CanFresh out.old.nets }
+    requires fresh { CanFresh out.old }
     requires pc { IsNet out.old.nets pc }
     requires low { 1 ≤ pc.width }
     requires high { pc.width ≤ 64 }
@@ -67,7 +72,7 @@ fn make_next_address(out: &mut Builder, pc: Wire) -> Result<Wire, NoMemory>
 /// Whether the flight in the stage is the adding instruction.
 #[tactic(auto, using(ap_net::proofs::Laws::laws))]
 fn make_enable(out: &mut Builder, valid: Wire, word: Wire, code: u64) -> Result<Wire, NoMemory>
-    requires fresh { CanFresh out.old.nets }
+    requires fresh { CanFresh out.old }
     requires valid { IsNet out.old.nets valid }
     requires one_bit { valid.width ≡ 1 }
     requires word { IsNet out.old.nets word }
@@ -84,21 +89,48 @@ fn make_enable(out: &mut Builder, valid: Wire, word: Wire, code: u64) -> Result<
     Ok(enable)
 }
 
-/// The register with the constant added.
-#[tactic(auto, using(ap_net::proofs::Laws::laws))]
-fn make_sum(out: &mut Builder, register: Wire, constant: u64) -> Result<Wire, NoMemory>
-    requires fresh { CanFresh out.old.nets }
+/// The register with the constant added, by an instance of the adder. The number of its operation `add` is 0.
+fn make_sum(
+    out: &mut Builder,
+    adder: &Module,
+    register: Wire,
+    constant: u64,
+) -> Result<Wire, NoMemory>
+    requires top { out.old.name ≡ codes "top" }
+    requires fresh { CanFresh out.old }
+    requires name { IsNew (codes "u_U") (names_of out.old) }
+    requires adder { IsAdder register.width adder.now }
     requires register { IsNet out.old.nets register }
     requires low { 1 ≤ register.width }
     requires high { register.width ≤ 64 }
     requires constant { constant < 2 ^ register.width }
     ensures net { IfOk result (λ w. IsNet out.new.nets w × (w.width ≡ register.width)) }
-    ensures value { IfOk result (λ w. (read : ℕ → ℕ) → SettlesDraft out.new read → SettlesDraft out.old read × (read w.number ≡ (read register.number + constant) % 2 ^ register.width)) }
-    ensures makes { OnOk result (Makes out.old out.new) }
+    ensures value { IfOk result (λ w. (modules : List ModuleText) → module_named modules adder.now.name ≡ Some adder.now → (read : ℕ → ℕ) (parts : ℕ → ℕ → ℕ) → SettlesOpen modules out.new read parts
+        → SettlesOpen modules out.old read parts × (read w.number ≡ (read register.number + constant) % 2 ^ register.width)) }
+    ensures places { OnOk result ((unit : Instance) × IsUnit adder.now unit × Places (unit ∷ []) out.old out.new) }
 {
+    let add = out.make(4, Cell::Const(0))?;
     let added = out.make(register.width, Cell::Const(constant))?;
-    let sum = out.make(register.width, Cell::Two(TwoOp::Add, register, added))?;
-    Ok(sum)
+    let results = out.place(b"u_U", adder, &[add, register, added])?;
+    Ok(results.as_slice()[0])
+}
+
+/// The module of an adder of this width, with the ports of a unit that takes one cycle. It adds whatever `sel` is.
+fn make_adder(alloc: Global, width: u32) -> Result<Module, NoMemory>
+    requires low { 1 ≤ width }
+    requires high { width ≤ 64 }
+    ensures { IfOk result (IsAdder width) }
+{
+    let name = format!(in alloc; "k_alu_{width}")?;
+    let mut out = Builder::new(alloc, name.as_bytes())?;
+    let _sel = out.input(b"sel", 4)?;
+    let a = out.input(b"a", width)?;
+    let b = out.input(b"b", width)?;
+    let y = out.output(b"y", width)?;
+    out.cell(y, Cell::Two(TwoOp::Add, a, b))?;
+    let adder = out.finish()?;
+    adder.rules();
+    Ok(adder)
 }
 
 /// The circuit of the machine over its registers, and the nets that the rest reads.
@@ -112,10 +144,11 @@ struct Circuit {
     one: Wire,
 }
 
-/// Builds the circuit.
-fn make_circuit(alloc: Global, form: Form) -> Result<Circuit, NoMemory>
-    requires { IsForm form }
-    ensures { IfOk result (λ c. IsCircuit form c.out (nets_of c)) }
+/// Builds the circuit, with an instance of the adder.
+fn make_circuit(alloc: Global, form: Form, adder: &Module) -> Result<Circuit, NoMemory>
+    requires form { IsForm form }
+    requires adder { IsAdder form.width adder.now }
+    ensures { IfOk result (λ c. IsCircuit form adder.now c.out (nets_of c)) }
 {
     let pc = Wire {
         number: 0,
@@ -136,7 +169,7 @@ fn make_circuit(alloc: Global, form: Form) -> Result<Circuit, NoMemory>
     let mut out = with_ports(alloc, form)?;
     let next_address = make_next_address(&mut out, pc)?;
     let enable = make_enable(&mut out, valid, word, form.code)?;
-    let sum = make_sum(&mut out, register, form.constant)?;
+    let sum = make_sum(&mut out, adder, register, form.constant)?;
     let written = out.make(form.width, Cell::Choose(enable, sum, register))?;
     let one = out.make(1, Cell::Const(1))?;
     Ok(Circuit {
@@ -149,27 +182,29 @@ fn make_circuit(alloc: Global, form: Form) -> Result<Circuit, NoMemory>
     })
 }
 
-/// Shows the write group: its enable and its value.
-fn show_group(form: Form, circuit: &mut Circuit) -> Result<(), NoMemory>
+/// The circuit, and the write group shown: its enable and its value.
+fn make_shown(alloc: Global, form: Form, adder: &Module) -> Result<Circuit, NoMemory>
     requires form { IsForm form }
-    requires circuit { IsCircuit form circuit.old.out (nets_of circuit.old) }
-    ensures shown { OnOk result (IsShown form circuit.new.out (nets_of circuit.new)) }
-    ensures nexts { OnOk result (circuit.new.out.nexts ≡ []) }
+    requires adder { IsAdder form.width adder.now }
+    ensures shown { IfOk result (λ c. IsShown form adder.now c.out (nets_of c)) }
+    ensures nexts { IfOk result (λ c. c.out.nexts ≡ []) }
 {
+    let mut circuit = make_circuit(alloc, form, adder)?;
     let enable = circuit.enable;
     let sum = circuit.sum;
     let out = &mut circuit.out;
     out.show(b"w_R_e", 1, Cell::Copy(enable))?;
     out.show(b"w_R_v", form.width, Cell::Copy(sum))?;
-    Ok(())
+    Ok(circuit)
 }
 
 /// Says what the registers take, and finishes the module.
-fn clocked(form: Form, circuit: Circuit) -> Result<Module, NoMemory>
+fn clocked(form: Form, adder: &Module, circuit: Circuit) -> Result<Module, NoMemory>
     requires form { IsForm form }
-    requires shown { IsShown form circuit.out (nets_of circuit) }
+    requires adder { IsAdder form.width adder.now }
+    requires shown { IsShown form adder.now circuit.out (nets_of circuit) }
     requires nexts { circuit.out.nexts ≡ [] }
-    ensures { IfOk result (IsDesignModule form) }
+    ensures { IfOk result (IsTop form adder.now) }
 {
     let pc = Wire {
         number: 0,
@@ -198,17 +233,32 @@ fn clocked(form: Form, circuit: Circuit) -> Result<Module, NoMemory>
     out.next(word, fetched)?;
     solution_exists();
     names_are_found();
+    netlists_open();
     let top = out.finish()?;
     top.rules();
     Ok(top)
 }
 
-/// The processor of a form as one module: a pc, the register, and one stage that holds a word or nothing.
-pub fn two_stage(alloc: Global, form: Form) -> Result<Module, NoMemory>
-    requires { IsForm form }
-    ensures { IfOk result (IsDesignModule form) }
+/// The netlist of these two modules.
+fn joined(alloc: Global, form: Form, adder: Module, top: Module) -> Result<Netlist, NoMemory>
+    requires adder { IsAdder form.width adder }
+    requires top { IsTop form adder top }
+    ensures { IfOk result (IsDesign form) }
 {
-    let mut circuit = make_circuit(alloc, form)?;
-    show_group(form, &mut circuit)?;
-    clocked(form, circuit)
+    let mut modules = Vec::new(alloc);
+    modules.push(adder)?;
+    modules.push(top)?;
+    Ok(Netlist::new(modules))
+}
+
+/// The processor of a form: the module of its unit, and the module `top` with a pc, the register, and one stage that holds a
+/// word or nothing.
+pub fn two_stage(alloc: Global, form: Form) -> Result<Netlist, NoMemory>
+    requires { IsForm form }
+    ensures { IfOk result (IsDesign form) }
+{
+    let adder = make_adder(alloc, form.width)?;
+    let circuit = make_shown(alloc, form, &adder)?;
+    let top = clocked(form, &adder, circuit)?;
+    joined(alloc, form, adder, top)
 }

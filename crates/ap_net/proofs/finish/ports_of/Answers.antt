@@ -1,5 +1,5 @@
 use Rattle.std.proofs.Common.{◌∙◌, sym}
-use Rattle.ap_net.specs.declared.net.FlatNet.{FlatNet}
+use Rattle.ap_net.specs.declared.net.ModuleNet.{ModuleNet}
 use Rattle.ap_net.specs.Modules.{port_by}
 use Rattle.ap_net.proofs.Steps.{some_more, none_more}
 use Rattle.ap_net.proofs.finish.ports_of.Goals as goal
@@ -8,6 +8,6 @@ use Rattle.ap_net.proofs.finish.ports_of.Goals.{in-Some+in_ok-push, in_default}
 pub loop-net-preserved : goal.loop-net-preserved
 loop-net-preserved c =
     elim c.match-branch-2.branch [
-      | in-Some+in_ok-push w ↦ rw (w.ports-is, w.in_ok-push.ensures.items) (some_more (λ (net : FlatNet). port_by net.role net) c.args.nets.now c.loop-net.net-index c.net-item.result _ _ c.loop-net-test.true c.net-item.is (sym c.in_ok-port.ensures ∙ w.in-Some.is) c.loop-net.invariant)
-      | in_default w ↦ rw w.ports-is (none_more (λ (net : FlatNet). port_by net.role net) c.args.nets.now c.loop-net.net-index c.net-item.result _ c.loop-net-test.true c.net-item.is (sym c.in_ok-port.ensures ∙ w.in_default.is) c.loop-net.invariant)
+      | in-Some+in_ok-push w ↦ rw (w.ports-is, w.in_ok-push.ensures.items) (some_more (λ (net : ModuleNet). port_by net.role net) c.args.nets.now c.loop-net.net-index c.net-item.result _ _ c.loop-net-test.true c.net-item.is (sym c.in_ok-port.ensures ∙ w.in-Some.is) c.loop-net.invariant)
+      | in_default w ↦ rw w.ports-is (none_more (λ (net : ModuleNet). port_by net.role net) c.args.nets.now c.loop-net.net-index c.net-item.result _ c.loop-net-test.true c.net-item.is (sym c.in_ok-port.ensures ∙ w.in_default.is) c.loop-net.invariant)
     ]

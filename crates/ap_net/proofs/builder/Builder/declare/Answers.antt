@@ -1,25 +1,31 @@
 use Rattle.std.proofs.Common.{◌+◌, ◌<◌, ◌^◌, ap, sym, ◌∙◌, arith}
 use Rattle.ap_net.specs.Draft.{is_plain, wire_count}
-use Rattle.ap_net.proofs.Drafts.{Adds-declare}
-use Rattle.ap_net.proofs.Wired.{IsWired-declare, wire_count-push, CanFresh-declare, CanFresh-fresh}
+use Rattle.ap_net.proofs.Drafts.{Adds-declare, IsNew-made}
+use Rattle.ap_net.proofs.Wired.{IsWired-declare, wire_count-push}
+use Rattle.ap_net.proofs.Connected.{IsConnected-declare, CanFresh-declare, CanFresh-fresh, IsNew-taken}
 use Rattle.ap_net.proofs.builder.Builder.declare.Goals as goal
 
 pub invariant_of-self-2 : goal.invariant_of-self-2
 invariant_of-self-2 c =
     let new = rw (← c.self.view_is) at c.requires.name in
-    rw c.in_ok-push.ensures.items (
-      c.self.invariant.0,
-      IsWired-declare _ _ _ _ c.requires.is_name new c.requires.low c.requires.high c.requires.reset c.self.invariant.1,
-      (λ i. c.self.invariant.2 i + c.wires_in.ensures i) ∙ sym (wire_count-push c.self.inside.nets.items _),
-    )
+    rw c.in_ok-push.ensures.items (record {
+      name = c.self.invariant.name;
+      wired = IsWired-declare _ _ _ _ c.requires.is_name (IsNew-taken _ _ _ new) c.requires.low c.requires.high c.requires.reset c.self.invariant.wired;
+      connected = IsConnected-declare _ _ _ _ new c.self.invariant.connected;
+      alone = c.self.invariant.alone;
+      wires = (λ i. c.self.invariant.wires i + c.wires_in.ensures i) ∙ sym (wire_count-push c.self.inside.nets.items _);
+    })
 
 pub returns-clause-adds : goal.returns-clause-adds
 returns-clause-adds c = rw (c.in_ok-push.ensures.items, ← c.self.view_is) (Adds-declare _ _)
 
+pub returns-clause-names : goal.returns-clause-names
+returns-clause-names c = rw (c.in_ok-push.ensures.items, ← c.self.view_is) (λ other ne h. IsNew-made _ _ _ other ne h)
+
 pub returns-clause-named : goal.returns-clause-named
-returns-clause-named c = rw (c.in_ok-push.ensures.items, ← c.self.view_is) (CanFresh-declare _ _)
+returns-clause-named c = rw (c.in_ok-push.ensures.items, ← c.self.view_is) (CanFresh-declare _ _ _)
 
 pub returns-clause-numbered : goal.returns-clause-numbered
 returns-clause-numbered c =
-    let small : wire_count c.self.inside.nets.items < 2 ^ 64 = let e = c.self.invariant.2 in omega arith in
-    rw (c.in_ok-push.ensures.items, ← c.self.view_is) (λ named plain. CanFresh-fresh _ _ named (ap is_plain plain) small)
+    let small : wire_count c.self.inside.nets.items < 2 ^ 64 = let e = c.self.invariant.wires in omega arith in
+    rw (c.in_ok-push.ensures.items, ← c.self.view_is) (λ named plain. CanFresh-fresh _ _ _ named (ap is_plain plain) small)

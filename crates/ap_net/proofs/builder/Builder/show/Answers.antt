@@ -1,8 +1,9 @@
 use Rattle.std.proofs.Common.{refl}
-use Rattle.ap_net.specs.Wiring.{IsWired}
+use Rattle.ap_net.specs.Wiring.{IsWired, IsConnected}
 use Rattle.ap_net.proofs.Lists.{get_end}
 use Rattle.ap_net.proofs.Wired.{IsNet-end, CellFits-more, IsFree-end, Undriven-end}
-use Rattle.ap_net.proofs.Drafts.{Adds-made, Closes-made, Settles-made}
+use Rattle.ap_net.proofs.Connected.{Unjoined-end}
+use Rattle.ap_net.proofs.Drafts.{Adds-made, Closes-made, Settles-made, IsNew-made}
 use Rattle.ap_net.proofs.builder.Builder.show.Goals as goal
 
 pub cell-requires-clause-net : goal.cell-requires-clause-net
@@ -16,8 +17,13 @@ cell-requires-clause-free c = rw (c.in_ok-to.ensures.ok, c.in_ok-to.ensures.wire
 
 pub cell-requires-clause-undriven : goal.cell-requires-clause-undriven
 cell-requires-clause-undriven c =
-    let wired : IsWired c.args.self.now.nets c.args.self.now.assigns c.args.self.now.nexts = rw (← c.self.view_is) c.self.invariant.1 in
+    let wired : IsWired c.args.self.now.nets c.args.self.now.assigns c.args.self.now.nexts = rw (← c.self.view_is) c.self.invariant.wired in
     rw (c.in_ok-to.ensures.ok, c.in_ok-to.ensures.wire) (Undriven-end c.args.self.now.nets c.args.self.now.assigns wired.results)
+
+pub cell-requires-clause-unjoined : goal.cell-requires-clause-unjoined
+cell-requires-clause-unjoined c =
+    let connected : IsConnected c.args.self.now.nets c.args.self.now.assigns c.args.self.now.instances = rw (← c.self.view_is) c.self.invariant.connected in
+    rw (c.in_ok-to.ensures.ok, c.in_ok-to.ensures.wire) (Unjoined-end c.args.self.now.nets c.args.self.now.instances connected.declared)
 
 pub returns-clause-net : goal.returns-clause-net
 returns-clause-net c = rw (c.in_ok-cell.ensures.ok, c.in_ok-to.ensures.ok, c.in_ok-to.ensures.wire) (IsNet-end c.args.self.now.nets _, refl)
@@ -27,11 +33,15 @@ returns-clause-value c = rw (c.in_ok-cell.ensures.ok, c.in_ok-to.ensures.ok, c.i
 
 pub returns-clause-adds : goal.returns-clause-adds
 returns-clause-adds c =
-    let wired : IsWired c.args.self.now.nets c.args.self.now.assigns c.args.self.now.nexts = rw (← c.self.view_is) c.self.invariant.1 in
-    rw (c.in_ok-cell.ensures.ok, c.in_ok-to.ensures.ok, c.in_ok-to.ensures.wire) (Adds-made c.args.self.now _ c.args.cell wired c.requires.fits)
+    let connected : IsConnected c.args.self.now.nets c.args.self.now.assigns c.args.self.now.instances = rw (← c.self.view_is) c.self.invariant.connected in
+    let wired : IsWired c.args.self.now.nets c.args.self.now.assigns c.args.self.now.nexts = rw (← c.self.view_is) c.self.invariant.wired in
+    rw (c.in_ok-cell.ensures.ok, c.in_ok-to.ensures.ok, c.in_ok-to.ensures.wire) (Adds-made c.args.self.now _ c.args.cell wired connected c.requires.fits)
 
 pub returns-clause-there : goal.returns-clause-there
 returns-clause-there c = rw (c.in_ok-cell.ensures.ok, c.in_ok-to.ensures.ok, c.in_ok-to.ensures.wire) (get_end c.args.self.now.nets _)
 
 pub returns-clause-closes : goal.returns-clause-closes
 returns-clause-closes c = rw (c.in_ok-cell.ensures.ok, c.in_ok-to.ensures.ok, c.in_ok-to.ensures.wire) (Closes-made c.args.self.now _ c.args.cell (λ s. s))
+
+pub returns-clause-names : goal.returns-clause-names
+returns-clause-names c = rw (c.in_ok-cell.ensures.ok, c.in_ok-to.ensures.ok) (λ other ne h. IsNew-made c.args.self.now.instances c.args.self.now.nets _ other ne h)

@@ -1,0 +1,3 @@
+pub mod FitsShape
+pub mod Rows
+pub mod Shapes

@@ -1,0 +1,21 @@
+-- The memories and inputs that a processor is run on.
+use Rattle.std.specs.Prelude.{◌≢◌, ℕ, List, [], ◌∷◌, map, codes}
+use Rattle.std.specs.List.{AllByRecursion as Each}
+use Rattle.ap_image.specs.declared.shape.MemShape.{MemShape}
+
+-- the bits of a code address and of a code word, the data memories, and the bits of each input port
+pub record Shape : Type 0 where
+  pub code_address : ℕ
+  pub code_width : ℕ
+  pub mems : List MemShape
+  pub inputs : List ℕ
+
+-- no name stands twice
+abbrev pub AreDistinct : List (List ℕ) → Type 0
+AreDistinct [] = Unit {0}
+AreDistinct (name ∷ names) = Each (λ other. other ≢ name) names × AreDistinct names
+
+-- what every shape keeps: the names of its memories differ, and none is that of the code memory
+pub record IsShape (shape : Shape) : Type 0 where
+  pub distinct : AreDistinct (map (λ (m : MemShape). m.name) shape.mems)
+  pub apart : Each (λ (m : MemShape). m.name ≢ codes "code") shape.mems

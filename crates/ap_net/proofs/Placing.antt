@@ -1,0 +1,516 @@
+-- An instance over ready nets and fresh wires is a piece of circuit.
+use Rattle.std.proofs.Common.{◌≡◌, ◌≢◌, ℕ, suc, zero, ◌+◌, ◌<◌, ◌≤◌, ◌^◌, max, List, [], ◌∷◌, ◌++◌, length, get_or, map, take, drop, Option, Some, None, Bool, true, false, refl, sym, ap, subst, ◌∙◌, arith, inl, inr, ⊎_elim, append-nil, append_assoc, length-append, add-zero, zero-add, add-one, eq-eqb, drop-cons}
+use Rattle.std.specs.Prelude.{◌⊎◌, slice_get, codes, ◌==◌, nat_lt, if◌then◌else◌}
+use Rattle.std.specs.Bool.{Decides}
+use Rattle.std.specs.List.{AllByRecursion as Each}
+use Rattle.std.proofs.lemmas.Bool.{cases_lt, lt-ltb, le-ltb}
+use Rattle.std.proofs.lemmas.Bool.Decides.{Decides-eqb}
+use Rattle.std.proofs.lemmas.List.{map-append, length-map, take_more}
+use Rattle.std.proofs.lemmas.List.Elements.{filter_map-append}
+use Rattle.std.proofs.lemmas.List.Sums.{sum_by-append}
+use Rattle.std.proofs.lemmas.Option.{slice_get_within}
+use Rattle.ap_net.specs.declared.cell.Wire.{Wire}
+use Rattle.ap_net.specs.declared.net.Role.TheVariants as role
+use Rattle.ap_net.specs.declared.net.ModuleNet.{ModuleNet}
+use Rattle.ap_net.specs.declared.net.Port.{Port}
+use Rattle.ap_net.specs.declared.net.Assign.{Assign}
+use Rattle.ap_net.specs.declared.net.Instance.{Instance}
+use Rattle.ap_net.specs.Names.{IsNew, IsNotNumbered, HasFresh, numbered}
+use Rattle.ap_net.specs.Cells.{IsNet, operands}
+use Rattle.ap_net.specs.Wiring.{IsSource, IsFree, IsWired, IsConnected, IsOrdered, Undriven, Unjoined, AreApart, Ranked, driven_among, driven_by, names_taken, taken_names, reset_of}
+use Rattle.ap_net.specs.Modules.{ModuleText, IsInstanceIn, nets_of, outputs, module_named, Connects, port_by, ports_among, instance_of}
+use Rattle.ap_net.specs.Opened.{SolvesPart, SolveParts, OrdersPart, Follows, IsOpenOrder, AreOrdered}
+use Rattle.ap_net.specs.Draft.{Draft, Extends, OpensOn, Opens, GrowsUp, Adds, Closes, Makes, SettlesDraft, SettlesOpen, names_of, wire_count, is_wire}
+use Rattle.ap_net.specs.Placing.{Places, output_widths, input_widths, wires_from, fresh_nets, merged, output_wires, placed_instance, with_placed}
+use Rattle.ap_net.proofs.Lists.{All-join, All-front, All-back, All-from, All-both, All-at, get_left, get_end, get_either, some_same}
+use Rattle.ap_net.proofs.Wired.{IsNet-more, IsNet-end, number-IsNet, declared, wire_count-push}
+use Rattle.ap_net.proofs.Connected.{names_taken-declare, driven_by-append, driven_within, IsNew-taken, CanFresh-fresh}
+use Rattle.ap_net.proofs.Drafts.{Settles-before, IsOpenOrder-agree, Adds-trans, Closes-trans, one_more_net}
+use Rattle.ap_net.proofs.Parts.{All-named, port_at}
+use Rattle.ap_net.proofs.Numbering.{count_cons}
+
+-- Lists by the flags of ports. -------------------------------------------------------------------------------------------
+
+pub width-wires_from : (n : ℕ) (widths : List ℕ) → map (λ (w : Wire). w.width) (wires_from n widths) ≡ widths
+width-wires_from n [] = refl
+width-wires_from n (width ∷ widths) = ap (λ l. width ∷ l) (width-wires_from (n + 1) widths)
+
+pub length-wires_from : (n : ℕ) (widths : List ℕ) → length (wires_from n widths) ≡ length widths
+length-wires_from n [] = refl
+length-wires_from n (width ∷ widths) = ap suc (length-wires_from (n + 1) widths)
+
+-- the merged nets are as wide as their ports
+pub merged-widths : (ports : List Port) (inputs outs : List Wire) → map (λ (w : Wire). w.width) inputs ≡ input_widths ports → map (λ (w : Wire). w.width) outs ≡ output_widths ports
+    → map (λ (w : Wire). w.width) (merged (map (λ (p : Port). p.output) ports) inputs outs) ≡ map (λ (p : Port). p.width) ports
+merged-widths [] inputs outs e f = refl
+merged-widths (p ∷ ports) inputs outs e f = go (merged-widths ports) p.output inputs outs e f
+  where
+    go : ((inputs outs : List Wire) → map (λ (w : Wire). w.width) inputs ≡ input_widths ports → map (λ (w : Wire). w.width) outs ≡ output_widths ports → map (λ (w : Wire). w.width) (merged (map (λ (q : Port). q.output) ports) inputs outs) ≡ map (λ (q : Port). q.width) ports)
+        → (b : Bool) (inputs outs : List Wire) → map (λ (w : Wire). w.width) inputs ≡ (if b then input_widths ports else p.width ∷ input_widths ports) → map (λ (w : Wire). w.width) outs ≡ (if b then p.width ∷ output_widths ports else output_widths ports)
+        → map (λ (w : Wire). w.width) (merged (b ∷ map (λ (p : Port). p.output) ports) inputs outs) ≡ p.width ∷ map (λ (p : Port). p.width) ports
+    go later true inputs [] e f = cc
+    go later true inputs (w ∷ outs) e f = let head : w.width ≡ p.width = cc in let tail : map (λ (w : Wire). w.width) outs ≡ output_widths ports = cc in (λ i. head i ∷ later inputs outs e tail i)
+    go later false [] outs e f = cc
+    go later false (w ∷ inputs) outs e f = let head : w.width ≡ p.width = cc in let tail : map (λ (w : Wire). w.width) inputs ≡ input_widths ports = cc in (λ i. head i ∷ later inputs outs tail f i)
+
+-- what holds of inputs and outputs holds of the merged nets
+pub merged-all : (P : Wire → Type 0) (drives : List Bool) (inputs outs : List Wire) → Each P inputs → Each P outs → Each P (merged drives inputs outs)
+merged-all P [] inputs outs p q = tt
+merged-all P (true ∷ drives) inputs [] p q = tt
+merged-all P (true ∷ drives) inputs (w ∷ outs) p q = (q.0, merged-all P drives inputs outs p q.1)
+merged-all P (false ∷ drives) [] outs p q = tt
+merged-all P (false ∷ drives) (w ∷ inputs) outs p q = (p.0, merged-all P drives inputs outs p.1 q)
+
+-- by the flag of each
+abbrev pub ByFlag : (P Q : Wire → Type 0) → Bool → Wire → Type 0
+ByFlag P Q true w = Q w
+ByFlag P Q false w = P w
+
+pub merged-at : (P Q : Wire → Type 0) (drives : List Bool) (inputs outs : List Wire) → Each P inputs → Each Q outs → (p : ℕ) (w : Wire) (d : Bool) → slice_get (merged drives inputs outs) p ≡ Some w → slice_get drives p ≡ Some d → ByFlag P Q d w
+merged-at P Q [] inputs outs h g p w d at flag = cc
+merged-at P Q (true ∷ drives) inputs [] h g p w d at flag = cc
+merged-at P Q (true ∷ drives) inputs (x ∷ outs) h g zero w d at flag = let same : x ≡ w = some_same at in let same' : true ≡ d = some_same flag in rw (← same, ← same') g.0
+merged-at P Q (true ∷ drives) inputs (x ∷ outs) h g (suc p) w d at flag = merged-at P Q drives inputs outs h g.1 p w d at flag
+merged-at P Q (false ∷ drives) [] outs h g p w d at flag = cc
+merged-at P Q (false ∷ drives) (x ∷ inputs) outs h g zero w d at flag = let same : x ≡ w = some_same at in let same' : false ≡ d = some_same flag in rw (← same, ← same') h.0
+merged-at P Q (false ∷ drives) (x ∷ inputs) outs h g (suc p) w d at flag = merged-at P Q drives inputs outs h.1 g p w d at flag
+
+-- the driven ones are the outputs
+pub driven-merged : (ports : List Port) (inputs outs : List Wire) → map (λ (w : Wire). w.width) inputs ≡ input_widths ports → map (λ (w : Wire). w.width) outs ≡ output_widths ports
+    → driven_among (map (λ (p : Port). p.output) ports) (merged (map (λ (p : Port). p.output) ports) inputs outs) ≡ map (λ (w : Wire). w.number) outs
+driven-merged [] inputs [] e f = refl
+driven-merged [] inputs (w ∷ outs) e f = cc
+driven-merged (p ∷ ports) inputs outs e f = go (driven-merged ports) p.output inputs outs e f
+  where
+    go : ((inputs outs : List Wire) → map (λ (w : Wire). w.width) inputs ≡ input_widths ports → map (λ (w : Wire). w.width) outs ≡ output_widths ports
+        → driven_among (map (λ (q : Port). q.output) ports) (merged (map (λ (q : Port). q.output) ports) inputs outs) ≡ map (λ (w : Wire). w.number) outs)
+        → (b : Bool) (inputs outs : List Wire) → map (λ (w : Wire). w.width) inputs ≡ (if b then input_widths ports else p.width ∷ input_widths ports) → map (λ (w : Wire). w.width) outs ≡ (if b then p.width ∷ output_widths ports else output_widths ports)
+        → driven_among (b ∷ map (λ (p : Port). p.output) ports) (merged (b ∷ map (λ (p : Port). p.output) ports) inputs outs) ≡ map (λ (w : Wire). w.number) outs
+    go later true inputs [] e f = cc
+    go later true inputs (w ∷ outs) e f = let tail : map (λ (w : Wire). w.width) outs ≡ output_widths ports = cc in ap (λ l. w.number ∷ l) (later inputs outs e tail)
+    go later false [] outs e f = cc
+    go later false (w ∷ inputs) outs e f = let tail : map (λ (w : Wire). w.width) inputs ≡ input_widths ports = cc in later inputs outs tail f
+
+-- Fresh wires. -----------------------------------------------------------------------------------------------------------
+
+pub wires_from-above : (n : ℕ) (widths : List ℕ) → Each (λ (w : Wire). n ≤ w.number) (wires_from n widths)
+wires_from-above n [] = tt
+wires_from-above n (width ∷ widths) = (omega arith, All-from (λ (w : Wire). n + 1 ≤ w.number) (λ (w : Wire). n ≤ w.number) (λ w le. omega arith) (wires_from (n + 1) widths) (wires_from-above (n + 1) widths))
+
+numbers-above : (n : ℕ) (widths : List ℕ) → Each (λ m. n ≤ m) (map (λ (w : Wire). w.number) (wires_from n widths))
+numbers-above n [] = tt
+numbers-above n (width ∷ widths) = (omega arith, All-from (λ m. n + 1 ≤ m) (λ m. n ≤ m) (λ m le. omega arith) (map (λ (w : Wire). w.number) (wires_from (n + 1) widths)) (numbers-above (n + 1) widths))
+
+numbers-apart : (n : ℕ) (widths : List ℕ) → AreApart (map (λ (w : Wire). w.number) (wires_from n widths))
+numbers-apart n [] = tt
+numbers-apart n (width ∷ widths) = (All-from (λ m. n + 1 ≤ m) (λ m. m ≢ n) (λ m le e. omega arith) (map (λ (w : Wire). w.number) (wires_from (n + 1) widths)) (numbers-above (n + 1) widths), numbers-apart (n + 1) widths)
+
+-- each fresh wire is declared behind the nets
+pub wires_from-IsNet : (nets : List ModuleNet) (count : ℕ) (widths : List ℕ) → Each (IsNet (nets ++ fresh_nets count widths)) (wires_from (length nets) widths)
+wires_from-IsNet nets count [] = tt
+wires_from-IsNet nets count (width ∷ widths) =
+    let first : ModuleNet = record { name = numbered count; width = width; role = role.Plain } in
+    let assoc : (nets ++ first ∷ []) ++ fresh_nets (count + 1) widths ≡ nets ++ first ∷ fresh_nets (count + 1) widths = append_assoc nets (first ∷ []) (fresh_nets (count + 1) widths) in
+    let long : length (nets ++ first ∷ []) ≡ length nets + 1 = length-append nets (first ∷ []) in
+    let rest = wires_from-IsNet (nets ++ first ∷ []) (count + 1) widths in (
+      subst (λ (ns : List ModuleNet). IsNet ns (record { number = length nets; width = width })) assoc (IsNet-more (nets ++ first ∷ []) (fresh_nets (count + 1) widths) _ (IsNet-end nets first)),
+      subst (λ n. Each (IsNet (nets ++ first ∷ fresh_nets (count + 1) widths)) (wires_from n widths)) long (subst (λ (ns : List ModuleNet). Each (IsNet ns) (wires_from (length (nets ++ first ∷ [])) widths)) assoc rest),
+    )
+
+-- a fresh net is a wire
+fresh_plain : (count : ℕ) (widths : List ℕ) (n : ℕ) (net : ModuleNet) → slice_get (fresh_nets count widths) n ≡ Some net → net.role ≡ role.Plain
+fresh_plain count [] n net at = cc
+fresh_plain count (width ∷ widths) zero net at = sym (ap (λ (x : ModuleNet). x.role) (some_same at))
+fresh_plain count (width ∷ widths) (suc n) net at = fresh_plain (count + 1) widths n net at
+
+-- and a net behind those that were there
+behind : (nets : List ModuleNet) (count : ℕ) (widths : List ℕ) (n : ℕ) (net : ModuleNet) → length nets ≤ n → slice_get (nets ++ fresh_nets count widths) n ≡ Some net → net.role ≡ role.Plain
+behind nets count widths n net le at =
+    ⊎_elim (λ h. let lt = slice_get_within nets n net h in absurd (omega arith)) (λ h. fresh_plain count widths h.0 net h.2) (get_either nets (fresh_nets count widths) n net at)
+
+numbers-IsFree : (nets : List ModuleNet) (count n : ℕ) (widths widths' : List ℕ) → length nets ≤ n → Each (IsFree (nets ++ fresh_nets count widths)) (map (λ (w : Wire). w.number) (wires_from n widths'))
+numbers-IsFree nets count n widths [] le = tt
+numbers-IsFree nets count n widths (width ∷ widths') le = ((λ net at s. subst IsSource (behind nets count widths n net le at) s), numbers-IsFree nets count (n + 1) widths widths' (omega arith))
+
+fresh_nets-append : (count : ℕ) (xs : List ℕ) (y : ℕ) → fresh_nets count (xs ++ y ∷ []) ≡ fresh_nets count xs ++ record { name = numbered (count + length xs); width = y; role = role.Plain } ∷ []
+fresh_nets-append count [] y = let e : count ≡ count + 0 = omega arith in ap (λ k. record { name = numbered k; width = y; role = role.Plain } ∷ []) e
+fresh_nets-append count (x ∷ xs) y =
+    let e : count + 1 + length xs ≡ count + suc (length xs) = omega arith in
+    ap (λ l. record { name = numbered count; width = x; role = role.Plain } ∷ l) (fresh_nets-append (count + 1) xs y ∙ ap (λ k. fresh_nets (count + 1) xs ++ record { name = numbered k; width = y; role = role.Plain } ∷ []) e)
+
+wires_from-append : (n : ℕ) (xs : List ℕ) (y : ℕ) → wires_from n (xs ++ y ∷ []) ≡ wires_from n xs ++ record { number = n + length xs; width = y } ∷ []
+wires_from-append n [] y = let e : n ≡ n + 0 = omega arith in ap (λ k. record { number = k; width = y } ∷ []) e
+wires_from-append n (x ∷ xs) y =
+    let e : n + 1 + length xs ≡ n + suc (length xs) = omega arith in
+    ap (λ l. record { number = n; width = x } ∷ l) (wires_from-append (n + 1) xs y ∙ ap (λ k. wires_from (n + 1) xs ++ record { number = k; width = y } ∷ []) e)
+
+pub length-fresh_nets : (count : ℕ) (widths : List ℕ) → length (fresh_nets count widths) ≡ length widths
+length-fresh_nets count [] = refl
+length-fresh_nets count (width ∷ widths) = ap suc (length-fresh_nets (count + 1) widths)
+
+fresh_count : (count : ℕ) (widths : List ℕ) → wire_count (fresh_nets count widths) ≡ length widths
+fresh_count count [] = refl
+fresh_count count (width ∷ widths) =
+    let rest = fresh_count (count + 1) widths in
+    count_cons is_wire (record { name = numbered count; width = width; role = role.Plain }) (fresh_nets (count + 1) widths) ∙ (let e : 1 + wire_count (fresh_nets (count + 1) widths) ≡ suc (length widths) = omega arith in e)
+
+wire_count-append : (nets more : List ModuleNet) → wire_count (nets ++ more) ≡ wire_count nets + wire_count more
+wire_count-append nets more = sum_by-append (λ (x : ModuleNet). if is_wire x then 1 else 0) nets more
+
+output_widths-append : (xs : List Port) (p : Port) → output_widths (xs ++ p ∷ []) ≡ output_widths xs ++ output_widths (p ∷ [])
+output_widths-append [] p = refl
+output_widths-append (x ∷ xs) p = go (output_widths-append xs p) x.output
+  where
+    go : output_widths (xs ++ p ∷ []) ≡ output_widths xs ++ output_widths (p ∷ []) → (b : Bool) → (if b then x.width ∷ output_widths (xs ++ p ∷ []) else output_widths (xs ++ p ∷ [])) ≡ (if b then x.width ∷ output_widths xs else output_widths xs) ++ output_widths (p ∷ [])
+    go later true = ap (λ l. x.width ∷ l) later
+    go later false = later
+
+-- the next port is no output, or one
+widths_more : (ports : List Port) (i : ℕ) (p : Port) → i < length ports → p ≡ get_or ports i p → output_widths (take (i + 1) ports) ≡ output_widths (take i ports) ++ output_widths (p ∷ [])
+widths_more ports i p lt e = ap output_widths (take_more ports i p lt) ∙ output_widths-append (take i ports) (get_or ports i p) ∙ ap (λ (q : Port). output_widths (take i ports) ++ output_widths (q ∷ [])) (sym e)
+
+pub widths_skip : (ports : List Port) (i : ℕ) (p : Port) → i < length ports → p ≡ get_or ports i p → p.output ≡ false → output_widths (take (i + 1) ports) ≡ output_widths (take i ports)
+widths_skip ports i p lt e off = widths_more ports i p lt e ∙ ap (λ b. output_widths (take i ports) ++ (if b then p.width ∷ [] else [])) off ∙ append-nil (output_widths (take i ports))
+
+widths_next : (ports : List Port) (i : ℕ) (p : Port) → i < length ports → p ≡ get_or ports i p → p.output ≡ true → output_widths (take (i + 1) ports) ≡ output_widths (take i ports) ++ p.width ∷ []
+widths_next ports i p lt e on = widths_more ports i p lt e ∙ ap (λ b. output_widths (take i ports) ++ (if b then p.width ∷ [] else [])) on
+
+-- one fresh wire more
+pub nets_next : (nets : List ModuleNet) (ports : List Port) (i : ℕ) (p : Port) → i < length ports → p ≡ get_or ports i p → p.output ≡ true
+    → (nets ++ fresh_nets (wire_count nets) (output_widths (take i ports))) ++ record { name = numbered (wire_count (nets ++ fresh_nets (wire_count nets) (output_widths (take i ports)))); width = p.width; role = role.Plain } ∷ []
+    ≡ nets ++ fresh_nets (wire_count nets) (output_widths (take (i + 1) ports))
+nets_next nets ports i p lt e on =
+    let ws : List ℕ = output_widths (take i ports) in
+    let count : wire_count (nets ++ fresh_nets (wire_count nets) ws) ≡ wire_count nets + length ws = wire_count-append nets (fresh_nets (wire_count nets) ws) ∙ ap (λ n. wire_count nets + n) (fresh_count (wire_count nets) ws) in
+    append_assoc nets (fresh_nets (wire_count nets) ws) (record { name = numbered (wire_count (nets ++ fresh_nets (wire_count nets) ws)); width = p.width; role = role.Plain } ∷ [])
+    ∙ ap (λ k. nets ++ (fresh_nets (wire_count nets) ws ++ record { name = numbered k; width = p.width; role = role.Plain } ∷ [])) count
+    ∙ ap (λ l. nets ++ l) (sym (fresh_nets-append (wire_count nets) ws p.width) ∙ ap (fresh_nets (wire_count nets)) (sym (widths_next ports i p lt e on)))
+
+pub wires_next : (nets : List ModuleNet) (ports : List Port) (i : ℕ) (p : Port) → i < length ports → p ≡ get_or ports i p → p.output ≡ true
+    → wires_from (length nets) (output_widths (take i ports)) ++ record { number = length (nets ++ fresh_nets (wire_count nets) (output_widths (take i ports))); width = p.width } ∷ []
+    ≡ wires_from (length nets) (output_widths (take (i + 1) ports))
+wires_next nets ports i p lt e on =
+    let ws : List ℕ = output_widths (take i ports) in
+    let long : length (nets ++ fresh_nets (wire_count nets) ws) ≡ length nets + length ws = length-append nets (fresh_nets (wire_count nets) ws) ∙ ap (λ n. length nets + n) (length-fresh_nets (wire_count nets) ws) in
+    ap (λ k. wires_from (length nets) ws ++ record { number = k; width = p.width } ∷ []) long
+    ∙ sym (wires_from-append (length nets) ws p.width) ∙ ap (wires_from (length nets)) (sym (widths_next ports i p lt e on))
+
+-- The nets of the ports, one after another. ------------------------------------------------------------------------------
+
+pub next_port : (ports : List Port) (i : ℕ) (p : Port) → i < length ports → p ≡ get_or ports i p → drop i ports ≡ p ∷ drop (i + 1) ports
+next_port ports i p lt e = rw add-one (drop-cons ports i p lt ∙ ap (λ x. x ∷ drop (suc i) ports) (sym e))
+
+next_wire : (wires : List Wire) (i : ℕ) (w : Wire) → i < length wires → w ≡ get_or wires i w → drop i wires ≡ w ∷ drop (i + 1) wires
+next_wire wires i w lt e = rw add-one (drop-cons wires i w lt ∙ ap (λ x. x ∷ drop (suc i) wires) (sym e))
+
+-- how many inputs and outputs are left
+pub record Left (ports : List Port) (inputs outs : List Wire) (i used driven : ℕ) : Type 0 where
+  pub inputs_left : used + length (input_widths (drop i ports)) ≡ length inputs
+  pub outputs_left : driven + length (output_widths (drop i ports)) ≡ length outs
+
+outputs_of_next : (ports : List Port) (i : ℕ) (p : Port) → drop i ports ≡ p ∷ drop (i + 1) ports → p.output ≡ true → (output_widths (drop i ports) ≡ p.width ∷ output_widths (drop (i + 1) ports)) × (input_widths (drop i ports) ≡ input_widths (drop (i + 1) ports))
+outputs_of_next ports i p e on = (
+  ap output_widths e ∙ ap (λ b. if b then p.width ∷ output_widths (drop (i + 1) ports) else output_widths (drop (i + 1) ports)) on,
+  ap input_widths e ∙ ap (λ b. if b then input_widths (drop (i + 1) ports) else p.width ∷ input_widths (drop (i + 1) ports)) on,
+)
+
+inputs_of_next : (ports : List Port) (i : ℕ) (p : Port) → drop i ports ≡ p ∷ drop (i + 1) ports → p.output ≡ false → (output_widths (drop i ports) ≡ output_widths (drop (i + 1) ports)) × (input_widths (drop i ports) ≡ p.width ∷ input_widths (drop (i + 1) ports))
+inputs_of_next ports i p e off = (
+  ap output_widths e ∙ ap (λ b. if b then p.width ∷ output_widths (drop (i + 1) ports) else output_widths (drop (i + 1) ports)) off,
+  ap input_widths e ∙ ap (λ b. if b then input_widths (drop (i + 1) ports) else p.width ∷ input_widths (drop (i + 1) ports)) off,
+)
+
+pub output_left : (ports : List Port) (inputs outs : List Wire) (i used driven : ℕ) (p : Port) → i < length ports → p ≡ get_or ports i p → p.output ≡ true → Left ports inputs outs i used driven → driven < length outs
+output_left ports inputs outs i used driven p lt e on left =
+    let a = (outputs_of_next ports i p (next_port ports i p lt e) on).0 in
+    let b : length (output_widths (drop i ports)) ≡ suc (length (output_widths (drop (i + 1) ports))) = ap length a in
+    let c = left.outputs_left in
+    omega arith
+
+pub input_left : (ports : List Port) (inputs outs : List Wire) (i used driven : ℕ) (p : Port) → i < length ports → p ≡ get_or ports i p → p.output ≡ false → Left ports inputs outs i used driven → used < length inputs
+input_left ports inputs outs i used driven p lt e off left =
+    let a = (inputs_of_next ports i p (next_port ports i p lt e) off).1 in
+    let b : length (input_widths (drop i ports)) ≡ suc (length (input_widths (drop (i + 1) ports))) = ap length a in
+    let c = left.inputs_left in
+    omega arith
+
+pub Left-output : (ports : List Port) (inputs outs : List Wire) (i used driven : ℕ) (p : Port) → i < length ports → p ≡ get_or ports i p → p.output ≡ true → Left ports inputs outs i used driven → Left ports inputs outs (i + 1) used (driven + 1)
+Left-output ports inputs outs i used driven p lt e on left =
+    let a = outputs_of_next ports i p (next_port ports i p lt e) on in
+    let b : length (output_widths (drop i ports)) ≡ suc (length (output_widths (drop (i + 1) ports))) = ap length a.0 in
+    let b' : length (input_widths (drop i ports)) ≡ length (input_widths (drop (i + 1) ports)) = ap length a.1 in
+    let c = left.outputs_left in
+    let c' = left.inputs_left in
+    record { inputs_left = omega arith; outputs_left = omega arith }
+
+pub Left-input : (ports : List Port) (inputs outs : List Wire) (i used driven : ℕ) (p : Port) → i < length ports → p ≡ get_or ports i p → p.output ≡ false → Left ports inputs outs i used driven → Left ports inputs outs (i + 1) (used + 1) driven
+Left-input ports inputs outs i used driven p lt e off left =
+    let a = inputs_of_next ports i p (next_port ports i p lt e) off in
+    let b : length (output_widths (drop i ports)) ≡ length (output_widths (drop (i + 1) ports)) = ap length a.0 in
+    let b' : length (input_widths (drop i ports)) ≡ suc (length (input_widths (drop (i + 1) ports))) = ap length a.1 in
+    let c = left.outputs_left in
+    let c' = left.inputs_left in
+    record { inputs_left = omega arith; outputs_left = omega arith }
+
+-- the nets so far and those that are left
+abbrev pub Merging : List Port → List Wire → List Wire → List Wire → ℕ → ℕ → ℕ → Type 0
+Merging ports inputs outs nets i used driven = nets ++ merged (map (λ (p : Port). p.output) (drop i ports)) (drop used inputs) (drop driven outs) ≡ merged (map (λ (p : Port). p.output) ports) inputs outs
+
+pub Merging-output : (ports : List Port) (inputs outs nets : List Wire) (i used driven : ℕ) (p : Port) (w : Wire) → i < length ports → p ≡ get_or ports i p → p.output ≡ true → driven < length outs → w ≡ get_or outs driven w
+    → Merging ports inputs outs nets i used driven → Merging ports inputs outs (nets ++ w ∷ []) (i + 1) used (driven + 1)
+Merging-output ports inputs outs nets i used driven p w lt e on lt' e' h =
+    append_assoc nets (w ∷ []) (merged (map (λ (q : Port). q.output) (drop (i + 1) ports)) (drop used inputs) (drop (driven + 1) outs))
+    ∙ ap (λ l. nets ++ l) (λ j. merged (sym on j ∷ map (λ (q : Port). q.output) (drop (i + 1) ports)) (drop used inputs) (w ∷ drop (driven + 1) outs))
+    ∙ ap (λ l. nets ++ l) (λ j. merged (map (λ (q : Port). q.output) (sym (next_port ports i p lt e) j)) (drop used inputs) (sym (next_wire outs driven w lt' e') j))
+    ∙ h
+
+pub Merging-input : (ports : List Port) (inputs outs nets : List Wire) (i used driven : ℕ) (p : Port) (w : Wire) → i < length ports → p ≡ get_or ports i p → p.output ≡ false → used < length inputs → w ≡ get_or inputs used w
+    → Merging ports inputs outs nets i used driven → Merging ports inputs outs (nets ++ w ∷ []) (i + 1) (used + 1) driven
+Merging-input ports inputs outs nets i used driven p w lt e off lt' e' h =
+    append_assoc nets (w ∷ []) (merged (map (λ (q : Port). q.output) (drop (i + 1) ports)) (drop (used + 1) inputs) (drop driven outs))
+    ∙ ap (λ l. nets ++ l) (λ j. merged (sym off j ∷ map (λ (q : Port). q.output) (drop (i + 1) ports)) (w ∷ drop (used + 1) inputs) (drop driven outs))
+    ∙ ap (λ l. nets ++ l) (λ j. merged (map (λ (q : Port). q.output) (sym (next_port ports i p lt e) j)) (sym (next_wire inputs used w lt' e') j) (drop driven outs))
+    ∙ h
+
+-- A placed instance as a piece of circuit. ------------------------------------------------------------------------------
+
+-- a number that is at least a function's values below n
+abbrev pub bound : (ℕ → ℕ) → ℕ → ℕ
+bound f zero = 0
+bound f (suc n) = max (f n) (bound f n)
+
+pub bound-above : (f : ℕ → ℕ) (n i : ℕ) → i < n → f i ≤ bound f n
+bound-above f zero i lt = absurd (omega arith)
+bound-above f (suc n) i lt = ⊎_elim (λ h. let up = bound-above f n i h in omega arith) (λ h. let same : f i ≡ f n = ap f (let e : i ≡ n = omega arith in e) in omega arith) (cases_lt i n)
+
+is_false : (b : Bool) (P : Type 0) → Decides b P → (P → ⊥) → b ≡ false
+is_false true P d p = absurd (p (d.0 refl))
+is_false false P d p = refl
+
+-- the connected nets are as wide as the ports
+pub placed-widths : (n : ℕ) (m : ModuleText) (inputs : List Wire) → map (λ (w : Wire). w.width) inputs ≡ input_widths m.ports → map (λ (w : Wire). w.width) (merged (outputs m) inputs (output_wires n m)) ≡ map (λ (p : Port). p.width) m.ports
+placed-widths n m inputs wide = merged-widths m.ports inputs (output_wires n m) wide (width-wires_from n (output_widths m.ports))
+
+module _ (d : Draft) (name : List ℕ) (m : ModuleText) (inputs : List Wire) (wired : IsWired d.nets d.assigns d.nexts) (connected : IsConnected d.nets d.assigns d.instances)
+    (wide : map (λ (w : Wire). w.width) inputs ≡ input_widths m.ports) (nets : Each (IsNet d.nets) inputs) where
+  abbrev count : ℕ
+  count = length d.nets
+
+  abbrev widths : List ℕ
+  widths = output_widths m.ports
+
+  abbrev more : List ModuleNet
+  more = fresh_nets (wire_count d.nets) widths
+
+  abbrev outs : List Wire
+  outs = wires_from count widths
+
+  abbrev whole : List Wire
+  whole = merged (outputs m) inputs outs
+
+  abbrev placed : Instance
+  placed = placed_instance count name m inputs
+
+  abbrev new : Draft
+  new = with_placed d name m inputs
+
+  numbers : driven_among (outputs m) whole ≡ map (λ (w : Wire). w.number) outs
+  numbers = driven-merged m.ports inputs outs wide (width-wires_from count widths)
+
+  pub placed-nets : Each (IsNet (d.nets ++ more)) whole
+  placed-nets = merged-all (IsNet (d.nets ++ more)) (outputs m) inputs outs (All-from (IsNet d.nets) (IsNet (d.nets ++ more)) (IsNet-more d.nets more) inputs nets) (wires_from-IsNet d.nets (wire_count d.nets) widths)
+
+  pub placed-free : Each (IsFree (d.nets ++ more)) (driven_among (outputs m) whole)
+  placed-free = rw numbers (numbers-IsFree d.nets (wire_count d.nets) count widths widths (omega arith))
+
+  pub placed-undriven : Each (Undriven d.assigns) (driven_among (outputs m) whole)
+  placed-undriven = rw numbers (All-from (λ n. count ≤ n) (Undriven d.assigns)
+      (λ n le. All-from (λ (a : Assign). IsNet d.nets a.to) (λ (a : Assign). a.to.number ≢ n) (λ a net e. let lt = number-IsNet d.nets a.to net in absurd (omega arith)) d.assigns wired.results)
+      (map (λ (w : Wire). w.number) outs) (numbers-above count widths))
+
+  pub placed-unjoined : Each (Unjoined d.instances) (driven_among (outputs m) whole)
+  placed-unjoined = rw numbers (All-from (λ n. count ≤ n) (Unjoined d.instances)
+      (λ n le. All-from (λ k. k < count) (λ k. k ≢ n) (λ k lt e. absurd (omega arith)) (driven_by d.instances) (driven_within d.nets d.instances connected.declared))
+      (map (λ (w : Wire). w.number) outs) (numbers-above count widths))
+
+  pub placed-apart : AreApart (driven_among (outputs m) whole)
+  placed-apart = rw numbers (numbers-apart count widths)
+
+  extends : Extends d new
+  extends = record { name = refl; nets = (more, refl); assigns = ([], sym (append-nil d.assigns)); nexts = ([], sym (append-nil d.nexts)); instances = (placed ∷ [], refl) }
+
+  module _ (modules : List ModuleText) (ordered : AreOrdered modules) (within : Each (IsInstanceIn modules) (d.instances ++ placed ∷ [])) (rank : ℕ → ℕ) (parts : ℕ → ℕ → ℕ)
+      (h : IsOpenOrder modules d.assigns d.instances rank parts) where
+    here : IsInstanceIn modules placed
+    here = (All-back (IsInstanceIn modules) d.instances (placed ∷ []) within).0
+
+    inner : IsOrdered (here.whole).assigns
+    inner = (All-named (λ (x : ModuleText). IsOrdered x.assigns) modules (placed.module) here.whole ordered here.found).0
+
+    -- above every rank of the nets so far
+    abbrev low : ℕ
+    low = bound rank count
+
+    -- the ranks of the placed part lie above low, those of the fresh wires above them
+    abbrev part : ℕ → ℕ
+    part n = low + 1 + inner.0 n
+
+    abbrev high : ℕ
+    high = low + 2 + bound inner.0 (length (nets_of here.whole))
+
+    abbrev after : ℕ → ℕ
+    after n = if nat_lt n count then rank n else high
+
+    abbrev parts_after : ℕ → ℕ → ℕ
+    parts_after k = if k == length d.instances then part else parts k
+
+    old_rank : (n : ℕ) → n < count → after n ≡ rank n
+    old_rank n lt = rw (lt-ltb n count lt) refl
+
+    new_rank : (n : ℕ) → count ≤ n → after n ≡ high
+    new_rank n le = rw (le-ltb n count le) refl
+
+    ranked : Ranked after d.assigns
+    ranked = All-both (λ (a : Assign). IsNet d.nets a.to × Each (IsNet d.nets) (operands a.cell)) (λ (a : Assign). Each (λ (o : Wire). rank o.number < rank a.to.number) (operands a.cell)) (λ (a : Assign). Each (λ (o : Wire). after o.number < after a.to.number) (operands a.cell))
+        (λ a both lower. All-both (IsNet d.nets) (λ (o : Wire). rank o.number < rank a.to.number) (λ (o : Wire). after o.number < after a.to.number)
+        (λ o net lt. let e = old_rank o.number (number-IsNet d.nets o net) in let f = old_rank a.to.number (number-IsNet d.nets a.to both.0) in rw (e, f) lt) (operands a.cell) both.1 lower)
+        d.assigns
+        (All-both (λ (a : Assign). IsNet d.nets a.to) (λ (a : Assign). Each (IsNet d.nets) (operands a.cell)) (λ (a : Assign). IsNet d.nets a.to × Each (IsNet d.nets) (operands a.cell)) (λ a p q. (p, q)) d.assigns wired.results (declared d.nets d.assigns d.nexts wired)) h.ranked
+
+    old_parts : IsOpenOrder modules d.assigns d.instances after parts
+    old_parts = IsOpenOrder-agree d.nets modules d.assigns d.assigns d.instances rank after parts connected.declared old_rank ranked h
+
+    follows : (flag : Bool) (w : Wire) (p : ℕ) → ByFlag (λ (x : Wire). x.number < count) (λ (x : Wire). count ≤ x.number) flag w → p < length (nets_of here.whole) → Follows flag (after w.number) (part p)
+    follows true w p le lt = let e = new_rank w.number le in let b = bound-above inner.0 (length (nets_of here.whole)) p lt in rw e (omega arith)
+    follows false w p lt within = let e = old_rank w.number lt in let b = bound-above rank count w.number lt in rw e (omega arith)
+
+    placed_part : OrdersPart here.whole placed after part
+    placed_part = record {
+      ranked = All-from (λ (a : Assign). Each (λ (o : Wire). inner.0 o.number < inner.0 a.to.number) (operands a.cell)) (λ (a : Assign). Each (λ (o : Wire). part o.number < part a.to.number) (operands a.cell))
+          (λ a. All-from (λ (o : Wire). inner.0 o.number < inner.0 a.to.number) (λ (o : Wire). part o.number < part a.to.number) (λ o lt. omega arith) (operands a.cell)) (here.whole).assigns inner.1;
+      joined = λ p w flag at is.
+          let port = port_at here.whole placed here.connects p w at in
+          follows flag w p
+          (merged-at (λ (x : Wire). x.number < count) (λ (x : Wire). count ≤ x.number) (outputs m) inputs outs (All-from (IsNet d.nets) (λ (x : Wire). x.number < count) (number-IsNet d.nets) inputs nets) (wires_from-above count widths) p w flag at is)
+          (slice_get_within (nets_of here.whole) p _ port.1);
+    }
+
+    part_here : (k : ℕ) → k ≡ length d.instances → parts_after k ≡ part
+    part_here k e = rw (eq-eqb k (length d.instances) e) refl
+
+    part_before : (k : ℕ) → k < length d.instances → parts_after k ≡ parts k
+    part_before k lt = rw (is_false (k == length d.instances) (k ≡ length d.instances) (Decides-eqb k (length d.instances)) (λ e. absurd (omega arith))) refl
+
+    pub placed-opens : OpensOn modules d new rank parts
+    placed-opens = record {
+      after = after;
+      parts_after = parts_after;
+      agrees = old_rank;
+      order = record {
+        ranked = ranked;
+        each = λ k i x at found.
+            ⊎_elim
+            (λ there. subst (OrdersPart x i after) (sym (part_before k (slice_get_within d.instances k i there))) (old_parts.each k i x there found))
+            (λ e.
+            let same : i ≡ placed = e.1 in
+            let same' : here.whole ≡ x = some_same (sym here.found ∙ ap (λ (y : Instance). module_named modules y.module) (sym same) ∙ found) in
+            subst (OrdersPart x i after) (sym (part_here k e.0)) (subst (λ (y : Instance). OrdersPart x y after part) (sym same) (subst (λ (y : ModuleText). OrdersPart y placed after part) same' placed_part)))
+            (one_more_net d.instances placed k i at);
+      };
+    }
+
+  pub placed-Adds : Adds d new
+  unfolding Opens GrowsUp
+  placed-Adds = record {
+    extends = extends;
+    nexts = refl;
+    order = λ rank h. record { after = rank; agrees = λ n lt. refl; ranked = h };
+    opens = placed-opens;
+    grows = ([], sym (append-nil d.assigns), tt);
+  }
+
+  -- an output stands where its number says
+  output_driven : (n j : ℕ) (ws : List ℕ) (k : ℕ) (net : ModuleNet) → slice_get (fresh_nets j ws) k ≡ Some net → Each (λ x. x ≢ n + k) (map (λ (w : Wire). w.number) (wires_from n ws)) → ⊥
+  output_driven n j [] k net at none = cc
+  output_driven n j (w ∷ ws) zero net at none = none.0 (omega arith)
+  output_driven n j (w ∷ ws) (suc k) net at none = let e : n + suc k ≡ n + 1 + k = omega arith in output_driven (n + 1) (j + 1) ws k net at (subst (λ t. Each (λ x. x ≢ t) (map (λ (w : Wire). w.number) (wires_from (n + 1) ws))) e none.1)
+
+  not_register : (net : ModuleNet) → net.role ≡ role.Plain → net.role ≡ role.Register (reset_of net.role) → ⊥
+  not_register net e f = let g : role.Plain ≡ role.Register (reset_of net.role) = sym e ∙ f in cc
+
+  pub placed-Closes : Closes d new
+  placed-Closes = record {
+    driven = λ old n net at no_source none unjoined.
+        let all : Each (λ x. x ≢ n) (driven_by d.instances ++ driven_by (placed ∷ [])) = subst (Each (λ x. x ≢ n)) (driven_by-append d.instances (placed ∷ [])) unjoined in
+        ⊎_elim
+        (λ there. old n net there no_source none (All-front (λ x. x ≢ n) (driven_by d.instances) (driven_by (placed ∷ [])) all))
+        (λ h.
+        let own : Each (λ x. x ≢ n) (driven_among (outputs m) whole) = subst (Each (λ x. x ≢ n)) (append-nil (driven_among (outputs m) whole)) (All-back (λ x. x ≢ n) (driven_by d.instances) (driven_by (placed ∷ [])) all) in
+        output_driven count (wire_count d.nets) widths h.0 net h.2 (subst (λ t. Each (λ x. x ≢ t) (map (λ (w : Wire). w.number) outs)) h.1 (subst (Each (λ x. x ≢ n)) numbers own)))
+        (get_either d.nets more n net at);
+    registers = λ k old n net at is.
+        ⊎_elim (λ there. old n net there is) (λ h. absurd (not_register net (fresh_plain (wire_count d.nets) widths h.0 net h.2) is)) (get_either d.nets more n net at);
+  }
+
+  -- the ports are as they were
+  no_ports : (j : ℕ) (ws : List ℕ) → ports_among (fresh_nets j ws) ≡ []
+  no_ports j [] = refl
+  no_ports j (w ∷ ws) = no_ports (j + 1) ws
+
+  pub placed-ports : ports_among (d.nets ++ more) ≡ ports_among d.nets
+  placed-ports = filter_map-append (λ (net : ModuleNet). port_by net.role net) d.nets more ∙ ap (λ l. ports_among d.nets ++ l) (no_ports (wire_count d.nets) widths) ∙ append-nil (ports_among d.nets)
+
+  -- what solves the whole solves what was there, and the part solves the module
+  pub placed-value : (modules : List ModuleText) (read : ℕ → ℕ) (parts : ℕ → ℕ → ℕ) → SettlesOpen modules new read parts
+      → SettlesOpen modules d read parts × (module_named modules m.name ≡ Some m → SolvesPart m placed read (parts (length d.instances)))
+  placed-value modules read parts s = (
+    record {
+      own = Settles-before d new read extends (record { fits = (s.own).fits; holds = (s.own).holds });
+      each = λ k i x at found. s.each k i x (get_left d.instances (placed ∷ []) k i at) found;
+    },
+    λ found. s.each (length d.instances) placed m (get_end d.instances placed) found,
+  )
+
+-- Names. -----------------------------------------------------------------------------------------------------------------
+
+-- an instance's name is one more, before the nets' names
+names_taken-instance : (instances : List Instance) (nets : List ModuleNet) (i : Instance) (other : List ℕ) → i.name ≢ other → IsNew other (names_taken instances nets) → IsNew other (names_taken (instances ++ i ∷ []) nets)
+names_taken-instance instances nets i other ne h =
+    let own : List (List ℕ) = map (λ (x : Instance). x.name) instances in
+    rw (map-append (λ (x : Instance). x.name) instances (i ∷ []))
+    (All-join (λ y. y ≢ other) (own ++ i.name ∷ []) (taken_names nets) (All-join (λ y. y ≢ other) own (i.name ∷ []) (All-front (λ y. y ≢ other) own (taken_names nets) h) (ne, tt)) (All-back (λ y. y ≢ other) own (taken_names nets) h))
+
+pub Places-placed : (d : Draft) (nets : List ModuleNet) (i : Instance) → IsNotNumbered i.name → Adds d (record d { nets = nets; instances = d.instances ++ i ∷ [] }) → Closes d (record d { nets = nets; instances = d.instances ++ i ∷ [] })
+    → ports_among nets ≡ ports_among d.nets → HasFresh (names_taken d.instances nets) (wire_count nets)
+    → ((other : List ℕ) → IsNotNumbered other → IsNew other (names_of d) → IsNew other (names_taken d.instances nets))
+    → Places (i ∷ []) d (record d { nets = nets; instances = d.instances ++ i ∷ [] })
+Places-placed d nets i other adds closes ports fresh names = record {
+  adds = adds;
+  instances = refl;
+  closes = closes;
+  fresh = λ _. record { free = λ k low small. names_taken-instance d.instances nets i (numbered k) (other k small) (fresh.free k low small) };
+  names = λ name not_numbered not_added new. names_taken-instance d.instances nets i name not_added.0 (names name not_numbered new);
+  ports = ports;
+}
+
+pub Places-Makes : (a b : Draft) → Makes a b → Places [] a b
+Places-Makes a b m = record { adds = m.adds; instances = m.instances ∙ sym (append-nil a.instances); closes = m.closes; fresh = m.fresh; names = λ name other added new. m.names name other new; ports = m.ports }
+
+pub Places-trans : (xs ys : List Instance) (a b c : Draft) → Places xs a b → Places ys b c → Places (xs ++ ys) a c
+Places-trans xs ys a b c p q = record {
+  adds = Adds-trans a b c p.adds q.adds;
+  instances = q.instances ∙ ap (λ l. l ++ ys) p.instances ∙ append_assoc a.instances xs ys;
+  closes = Closes-trans a b c p.closes q.closes;
+  fresh = λ h. q.fresh (p.fresh h);
+  names = λ name other added new.
+      let names : Each (λ x. x ≢ name) (map (λ (i : Instance). i.name) xs ++ map (λ (i : Instance). i.name) ys) = subst (Each (λ x. x ≢ name)) (map-append (λ (i : Instance). i.name) xs ys) added in
+      q.names name other (All-back (λ x. x ≢ name) (map (λ (i : Instance). i.name) xs) (map (λ (i : Instance). i.name) ys) names) (p.names name other (All-front (λ x. x ≢ name) (map (λ (i : Instance). i.name) xs) (map (λ (i : Instance). i.name) ys) names) new);
+  ports = q.ports ∙ p.ports;
+}
+
+-- what solves the larger draft and its parts solves the smaller one and its parts
+pub SettlesOpen-before : (modules : List ModuleText) (a b : Draft) (read : ℕ → ℕ) (parts : ℕ → ℕ → ℕ) → Extends a b → SettlesOpen modules b read parts → SettlesOpen modules a read parts
+SettlesOpen-before modules a b read parts e s = record {
+  own = Settles-before a b read e (record { fits = (s.own).fits; holds = (s.own).holds });
+  each = λ k i x at found. s.each k i x (subst (λ (is : List Instance). slice_get is k ≡ Some i) (sym (e.instances).1) (get_left a.instances (e.instances).0 k i at)) found;
+}
