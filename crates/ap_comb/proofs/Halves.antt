@@ -7,7 +7,7 @@ use Rattle.std.proofs.Math.ListN.{get_or-append}
 use Rattle.std.proofs.Math.Seq.{get_or-append_seam}
 use Rattle.std.proofs.lemmas.Option.{slice_get-map, slice_get-get_or, slice_get_within, get_or_from_slice_get}
 use Rattle.ap_net.specs.declared.cell.Wire.{Wire}
-use Rattle.ap_net.specs.declared.net.FlatNet.{FlatNet}
+use Rattle.ap_net.specs.declared.net.ModuleNet.{ModuleNet}
 use Rattle.ap_net.specs.Draft.{Draft, Makes}
 use Rattle.ap_net.proofs.Laws.{IsNet-Makes}
 use Rattle.ap_comb.specs.Choices.{IsOfWidth, values_of, pair_value}
@@ -59,7 +59,7 @@ halves_more read level made i bit first y second long one two value before j lt 
         (cases_lt (j % 2) 1)
 
 -- what stands at a place has the width of all
-pub width_at : (nets : List FlatNet) (w j : ℕ) (level : List Wire) (r : Option Wire) → All (IsOfWidth nets w) level → r ≡ slice_get level j → IfSome r (IsOfWidth nets w)
+pub width_at : (nets : List ModuleNet) (w j : ℕ) (level : List Wire) (r : Option Wire) → All (IsOfWidth nets w) level → r ≡ slice_get level j → IfSome r (IsOfWidth nets w)
 width_at nets w j level None all at = tt
 width_at nets w j level (Some x) all at =
     subst (IsOfWidth nets w) (get_or_from_slice_get level j x x (sym at)) (all j x (slice_get_within level j x (sym at)))

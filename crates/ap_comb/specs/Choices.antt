@@ -1,11 +1,11 @@
 -- Nets of one width, of which one is chosen by its number.
 use Rattle.std.specs.Prelude.{◌≡◌, ℕ, ◌==◌, if◌then◌else◌, List, map, Option, Some, None}
 use Rattle.ap_net.specs.declared.cell.Wire.{Wire}
-use Rattle.ap_net.specs.declared.net.FlatNet.{FlatNet}
+use Rattle.ap_net.specs.declared.net.ModuleNet.{ModuleNet}
 use Rattle.ap_net.specs.Cells.{IsNet}
 
 -- the net is declared, and has w bits
-pub record IsOfWidth (nets : List FlatNet) (w : ℕ) (x : Wire) : Type 0 where
+pub record IsOfWidth (nets : List ModuleNet) (w : ℕ) (x : Wire) : Type 0 where
   pub net : IsNet nets x
   pub wide : x.width ≡ w
 

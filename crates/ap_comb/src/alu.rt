@@ -7,11 +7,13 @@ ghost use Rattle.ap_net.specs.Draft.{CanFresh, Makes, SettlesDraft};
 ghost use Rattle.ap_unit.specs.Cards.{operation_value};
 ghost use Rattle.ap_comb.specs.Alu.{alu_card, name_of, result_of};
 ghost use Rattle.ap_comb.specs.Choices.{IsOfWidth, values_of};
+ghost use Rattle.ap_bits.specs.Cards.{FitsWidth};
+ghost use Rattle.ap_unit.specs.Built.{IsBlank, IsUnitDraft};
+ghost use Rattle.ap_unit.specs.Named.{NamesPlainly};
 
 use crate::parts::{bit, widened};
 use crate::select::select;
-use ap_bits::{BinOp, UnOp, binary, unary};
-use ap_net::NoMemory;
+use ap_bits::{BinOp, NoMemory, UnOp, binary, unary};
 use ap_net::builder::Builder;
 use ap_net::cell::{Cell, TwoOp, Wire};
 use ap_unit::{Inputs, UnitKind, declare_inputs, show_result};
@@ -49,7 +51,7 @@ const SELECT: u32 = 4;
 /// A comparison of two nets, with zeros above it to their width.
 #[tactic(auto, using(ap_net::proofs::Laws::laws))]
 fn flag(out: &mut Builder, op: TwoOp, a: Wire, b: Wire) -> Result<Wire, NoMemory>
-    requires fresh { CanFresh out.old.nets }
+    requires fresh { CanFresh out.old }
     requires op { FitsTwo op 1 a.width }
     requires a { IsNet out.old.nets a }
     requires b { IsNet out.old.nets b }
@@ -68,7 +70,7 @@ fn flag(out: &mut Builder, op: TwoOp, a: Wire, b: Wire) -> Result<Wire, NoMemory
 /// The first of two signs where they differ, else `below`. Each is one bit.
 #[tactic(auto, using(ap_net::proofs::Laws::laws))]
 fn by_signs(out: &mut Builder, first: Wire, second: Wire, below: Wire) -> Result<Wire, NoMemory>
-    requires fresh { CanFresh out.old.nets }
+    requires fresh { CanFresh out.old }
     requires first { IsNet out.old.nets first }
     requires first_bit { first.width ≡ 1 }
     requires second { IsNet out.old.nets second }
@@ -87,7 +89,7 @@ fn by_signs(out: &mut Builder, first: Wire, second: Wire, below: Wire) -> Result
 /// Whether the first of two nets is less as a two's complement number: one bit.
 #[tactic(auto, using(ap_net::proofs::Laws::laws))]
 fn is_less(out: &mut Builder, a: Wire, b: Wire) -> Result<Wire, NoMemory>
-    requires fresh { CanFresh out.old.nets }
+    requires fresh { CanFresh out.old }
     requires a { IsNet out.old.nets a }
     requires b { IsNet out.old.nets b }
     requires same { b.width ≡ a.width }
@@ -107,7 +109,7 @@ fn is_less(out: &mut Builder, a: Wire, b: Wire) -> Result<Wire, NoMemory>
 /// The signed comparison of two nets, with zeros above it to their width.
 #[tactic(auto, using(ap_net::proofs::Laws::laws))]
 fn signed_flag(out: &mut Builder, a: Wire, b: Wire) -> Result<Wire, NoMemory>
-    requires fresh { CanFresh out.old.nets }
+    requires fresh { CanFresh out.old }
     requires a { IsNet out.old.nets a }
     requires b { IsNet out.old.nets b }
     requires same { b.width ≡ a.width }
@@ -125,7 +127,7 @@ fn signed_flag(out: &mut Builder, a: Wire, b: Wire) -> Result<Wire, NoMemory>
 /// A cell of an operator whose result has the width of its operands.
 #[tactic(auto, using(ap_net::proofs::Laws::laws))]
 fn word(out: &mut Builder, op: TwoOp, a: Wire, b: Wire) -> Result<Wire, NoMemory>
-    requires fresh { CanFresh out.old.nets }
+    requires fresh { CanFresh out.old }
     requires op { FitsTwo op a.width a.width }
     requires a { IsNet out.old.nets a }
     requires b { IsNet out.old.nets b }
@@ -182,7 +184,7 @@ impl Operation {
     /// The net with its result.
     #[tactic(auto, using(ap_net::proofs::Laws::laws))]
     fn make(self, out: &mut Builder, a: Wire, b: Wire) -> Result<Wire, NoMemory>
-        requires fresh { CanFresh out.old.nets }
+        requires fresh { CanFresh out.old }
         requires a { IsNet out.old.nets a }
         requires b { IsNet out.old.nets b }
         requires same { b.width ≡ a.width }
@@ -209,7 +211,7 @@ impl Operation {
 /// The nets with the results of all operations, in the order of their numbers.
 #[tactic(auto, using(ap_net::proofs::Laws::laws))]
 fn results(out: &mut Builder, a: Wire, b: Wire) -> Result<Vec<Wire>, NoMemory>
-    requires fresh { CanFresh out.old.nets }
+    requires fresh { CanFresh out.old }
     requires a { IsNet out.old.nets a }
     requires b { IsNet out.old.nets b }
     requires same { b.width ≡ a.width }
@@ -231,7 +233,7 @@ fn results(out: &mut Builder, a: Wire, b: Wire) -> Result<Vec<Wire>, NoMemory>
 /// The result of the operation that `sel` chooses.
 #[tactic(auto, using(ap_net::proofs::Laws::laws))]
 fn chosen(out: &mut Builder, inputs: Inputs) -> Result<Wire, NoMemory>
-    requires fresh { CanFresh out.old.nets }
+    requires fresh { CanFresh out.old }
     requires sel { IsNet out.old.nets inputs.sel }
     requires bits { inputs.sel.width ≡ SELECT }
     requires a { IsNet out.old.nets inputs.a }
@@ -281,7 +283,14 @@ impl UnitKind for Alu {
         OPERATIONS[op as usize].value(w, a, b)
     }
 
-    fn build(&self, w: u32, out: &mut Builder) -> Result<(), NoMemory> {
+    /// Builds the unit; the wires of its module are named `n` and digits, and there are no registers.
+    fn build(&self, w: u32, out: &mut Builder) -> Result<(), NoMemory>
+        requires width { FitsWidth alu_card w }
+        requires new { IsBlank out.old }
+        ensures name { OnOk result (out.new.name ≡ out.old.name) }
+        ensures unit { OnOk result (IsUnitDraft out.new alu_card w) }
+        ensures names { OnOk result (NamesPlainly out.new) }
+    {
         let inputs = declare_inputs(out, SELECT, w)?;
         let y = chosen(out, inputs)?;
         show_result(out, inputs, y)?;

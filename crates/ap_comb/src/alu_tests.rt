@@ -2,7 +2,7 @@
 //! whole numbers.
 use crate::evaluate::shown;
 use crate::{Alu, Avg, Count, Shift};
-use ap_net::NoMemory;
+use ap_bits::NoMemory;
 use ap_net::builder::Builder;
 use ap_net::module::Module;
 use ap_unit::{Shelf, ShelfFault, UnitKind};

@@ -5,11 +5,13 @@ ghost use Rattle.ap_net.specs.Draft.{CanFresh, Makes, SettlesDraft};
 ghost use Rattle.ap_bits.specs.declared.term.BinOp.TheVariants.{Add, Srl};
 ghost use Rattle.ap_bits.specs.Operations.{binary_value};
 ghost use Rattle.ap_comb.specs.Averages.{avg_card};
+ghost use Rattle.ap_bits.specs.Cards.{FitsWidth};
+ghost use Rattle.ap_unit.specs.Built.{IsBlank, IsUnitDraft};
+ghost use Rattle.ap_unit.specs.Named.{NamesPlainly};
 
 use crate::parts::{upper_bits, widened};
-use ap_bits::BinOp;
 use ap_bits::value::binary;
-use ap_net::NoMemory;
+use ap_bits::{BinOp, NoMemory};
 use ap_net::builder::Builder;
 use ap_net::cell::{Cell, TwoOp, Wire};
 use ap_unit::{UnitKind, declare_inputs, show_result};
@@ -17,7 +19,7 @@ use ap_unit::{UnitKind, declare_inputs, show_result};
 /// The sum of two nets of more than one bit, its carry left out, moved to the right by one place.
 #[tactic(auto, using(ap_net::proofs::Laws::laws))]
 pub fn half_of_sum(out: &mut Builder, a: Wire, b: Wire) -> Result<Wire, NoMemory>
-    requires fresh { CanFresh out.old.nets }
+    requires fresh { CanFresh out.old }
     requires a { IsNet out.old.nets a }
     requires b { IsNet out.old.nets b }
     requires same { b.width ≡ a.width }
@@ -36,7 +38,7 @@ pub fn half_of_sum(out: &mut Builder, a: Wire, b: Wire) -> Result<Wire, NoMemory
 /// The sum of two nets, its carry left out, shifted right by 1: at one bit this is 0.
 #[tactic(auto, using(ap_net::proofs::Laws::laws))]
 pub fn average(out: &mut Builder, a: Wire, b: Wire) -> Result<Wire, NoMemory>
-    requires fresh { CanFresh out.old.nets }
+    requires fresh { CanFresh out.old }
     requires a { IsNet out.old.nets a }
     requires b { IsNet out.old.nets b }
     requires same { b.width ≡ a.width }
@@ -84,7 +86,14 @@ impl UnitKind for Avg {
         binary(BinOp::Srl, w, binary(BinOp::Add, w, a, b), 1)
     }
 
-    fn build(&self, w: u32, out: &mut Builder) -> Result<(), NoMemory> {
+    /// Builds the unit; the wires of its module are named `n` and digits, and there are no registers.
+    fn build(&self, w: u32, out: &mut Builder) -> Result<(), NoMemory>
+        requires width { FitsWidth avg_card w }
+        requires new { IsBlank out.old }
+        ensures name { OnOk result (out.new.name ≡ out.old.name) }
+        ensures unit { OnOk result (IsUnitDraft out.new avg_card w) }
+        ensures names { OnOk result (NamesPlainly out.new) }
+    {
         let inputs = declare_inputs(out, 1, w)?;
         let y = average(out, inputs.a, inputs.b)?;
         show_result(out, inputs, y)

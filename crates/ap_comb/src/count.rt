@@ -5,12 +5,14 @@ ghost use Rattle.ap_net.specs.Draft.{CanFresh, Makes, SettlesDraft};
 ghost use Rattle.ap_bits.specs.declared.term.UnOp.{UnOp};
 ghost use Rattle.ap_bits.specs.Operations.{unary_value, zeros_above};
 ghost use Rattle.ap_comb.specs.Counts.{count_ops, count_card};
+ghost use Rattle.ap_bits.specs.Cards.{FitsWidth};
+ghost use Rattle.ap_unit.specs.Built.{IsBlank, IsUnitDraft};
+ghost use Rattle.ap_unit.specs.Named.{NamesPlainly};
 
 use crate::leading::running_or;
 use crate::sums::ones;
-use ap_bits::UnOp;
 use ap_bits::value::unary;
-use ap_net::NoMemory;
+use ap_bits::{NoMemory, UnOp};
 use ap_net::builder::Builder;
 use ap_net::cell::{Cell, Wire};
 use ap_unit::{UnitKind, declare_inputs, show_result};
@@ -18,7 +20,7 @@ use ap_unit::{UnitKind, declare_inputs, show_result};
 /// The bits to be counted: where the net `leading` is 1, ones above the highest 1 of `x`, else `x`.
 #[tactic(auto, using(ap_net::proofs::Laws::laws))]
 pub fn counted_bits(out: &mut Builder, leading: Wire, x: Wire) -> Result<Wire, NoMemory>
-    requires fresh { CanFresh out.old.nets }
+    requires fresh { CanFresh out.old }
     requires leading { IsNet out.old.nets leading }
     requires one_bit { leading.width ≡ 1 }
     requires x { IsNet out.old.nets x }
@@ -37,7 +39,7 @@ pub fn counted_bits(out: &mut Builder, leading: Wire, x: Wire) -> Result<Wire, N
 /// The operation `sel` of a counter of bits.
 #[tactic(auto, using(ap_net::proofs::Laws::laws))]
 pub fn number_of_bits(out: &mut Builder, sel: Wire, a: Wire) -> Result<Wire, NoMemory>
-    requires fresh { CanFresh out.old.nets }
+    requires fresh { CanFresh out.old }
     requires sel { IsNet out.old.nets sel }
     requires one_bit { sel.width ≡ 1 }
     requires a { IsNet out.old.nets a }
@@ -91,7 +93,14 @@ impl UnitKind for Count {
         unary(operation(op), w, a)
     }
 
-    fn build(&self, w: u32, out: &mut Builder) -> Result<(), NoMemory> {
+    /// Builds the unit; the wires of its module are named `n` and digits, and there are no registers.
+    fn build(&self, w: u32, out: &mut Builder) -> Result<(), NoMemory>
+        requires width { FitsWidth count_card w }
+        requires new { IsBlank out.old }
+        ensures name { OnOk result (out.new.name ≡ out.old.name) }
+        ensures unit { OnOk result (IsUnitDraft out.new count_card w) }
+        ensures names { OnOk result (NamesPlainly out.new) }
+    {
         let inputs = declare_inputs(out, 1, w)?;
         let y = number_of_bits(out, inputs.sel, inputs.a)?;
         show_result(out, inputs, y)

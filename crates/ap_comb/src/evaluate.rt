@@ -1,5 +1,5 @@
 //! What a finished unit shows, cell by cell: each cell's operands are computed before it.
-use ap_net::NoMemory;
+use ap_bits::NoMemory;
 use ap_net::cell::{Cell, TwoOp, Wire};
 use ap_net::module::Module;
 use std::alloc::Global;

@@ -3,7 +3,7 @@
 use crate::evaluate::shown;
 use crate::nand::Nand;
 use crate::{Avg, Count, Shift};
-use ap_net::NoMemory;
+use ap_bits::NoMemory;
 use ap_net::builder::Builder;
 use ap_net::module::Module;
 use ap_unit::{Shelf, UnitKind};

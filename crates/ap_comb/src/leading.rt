@@ -5,14 +5,14 @@ ghost use Rattle.ap_net.specs.Draft.{CanFresh, Makes, SettlesDraft};
 ghost use Rattle.ap_bits.specs.Operations.{zeros_above};
 
 use crate::parts::{upper_bits, widened};
-use ap_net::NoMemory;
+use ap_bits::NoMemory;
 use ap_net::builder::Builder;
 use ap_net::cell::{Cell, TwoOp, Wire};
 
 /// Each bit of a net or the one that stands `places` above it.
 #[tactic(auto, using(ap_net::proofs::Laws::laws))]
 fn or_above(out: &mut Builder, x: Wire, places: u32) -> Result<Wire, NoMemory>
-    requires fresh { CanFresh out.old.nets }
+    requires fresh { CanFresh out.old }
     requires x { IsNet out.old.nets x }
     requires high { x.width ≤ 64 }
     requires some { 1 ≤ places }
@@ -30,7 +30,7 @@ fn or_above(out: &mut Builder, x: Wire, places: u32) -> Result<Wire, NoMemory>
 /// The running or from the top: ones from the highest 1 of a net down. In each round it reaches twice as far.
 #[tactic(auto, using(ap_net::proofs::Laws::laws))]
 pub fn running_or(out: &mut Builder, x: Wire) -> Result<Wire, NoMemory>
-    requires fresh { CanFresh out.old.nets }
+    requires fresh { CanFresh out.old }
     requires x { IsNet out.old.nets x }
     requires low { 1 ≤ x.width }
     requires high { x.width ≤ 64 }

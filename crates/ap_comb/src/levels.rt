@@ -5,7 +5,7 @@ ghost use Rattle.ap_net.specs.Draft.{CanFresh, Makes, SettlesDraft};
 ghost use Rattle.ap_comb.specs.Moves.{moved_left, moved_right, moved, inlet};
 
 use crate::parts::{bit, lower_bits, repeated, upper_bits};
-use ap_net::NoMemory;
+use ap_bits::NoMemory;
 use ap_net::builder::Builder;
 use ap_net::cell::{Cell, Wire};
 
@@ -21,7 +21,7 @@ pub enum Way {
 /// What comes in below: where the net `turn` is 1 the highest `places` bits of `x`, else zeros.
 #[tactic(auto, using(ap_net::proofs::Laws::laws))]
 fn incoming(out: &mut Builder, x: Wire, turn: Wire, places: u32) -> Result<Wire, NoMemory>
-    requires fresh { CanFresh out.old.nets }
+    requires fresh { CanFresh out.old }
     requires x { IsNet out.old.nets x }
     requires high { x.width ≤ 64 }
     requires turn { IsNet out.old.nets turn }
@@ -41,7 +41,7 @@ fn incoming(out: &mut Builder, x: Wire, turn: Wire, places: u32) -> Result<Wire,
 /// A net moved to the left.
 #[tactic(auto, using(ap_net::proofs::Laws::laws))]
 fn move_left(out: &mut Builder, x: Wire, turn: Wire, places: u32) -> Result<Wire, NoMemory>
-    requires fresh { CanFresh out.old.nets }
+    requires fresh { CanFresh out.old }
     requires x { IsNet out.old.nets x }
     requires high { x.width ≤ 64 }
     requires turn { IsNet out.old.nets turn }
@@ -61,7 +61,7 @@ fn move_left(out: &mut Builder, x: Wire, turn: Wire, places: u32) -> Result<Wire
 /// A net moved to the right.
 #[tactic(auto, using(ap_net::proofs::Laws::laws))]
 fn move_right(out: &mut Builder, x: Wire, fill: Wire, places: u32) -> Result<Wire, NoMemory>
-    requires fresh { CanFresh out.old.nets }
+    requires fresh { CanFresh out.old }
     requires x { IsNet out.old.nets x }
     requires high { x.width ≤ 64 }
     requires fill { IsNet out.old.nets fill }
@@ -80,7 +80,7 @@ fn move_right(out: &mut Builder, x: Wire, fill: Wire, places: u32) -> Result<Wir
 
 /// A net moved in a way.
 fn move_by(out: &mut Builder, way: Way, x: Wire, places: u32) -> Result<Wire, NoMemory>
-    requires fresh { CanFresh out.old.nets }
+    requires fresh { CanFresh out.old }
     requires x { IsNet out.old.nets x }
     requires high { x.width ≤ 64 }
     requires way { IsNet out.old.nets (inlet way) }
@@ -100,7 +100,7 @@ fn move_by(out: &mut Builder, way: Way, x: Wire, places: u32) -> Result<Wire, No
 /// A level: the net moved by so many places where the net `by` of one bit is 1, else as it is.
 #[tactic(auto, using(ap_net::proofs::Laws::laws))]
 fn level(out: &mut Builder, way: Way, x: Wire, by: Wire, places: u32) -> Result<Wire, NoMemory>
-    requires fresh { CanFresh out.old.nets }
+    requires fresh { CanFresh out.old }
     requires x { IsNet out.old.nets x }
     requires high { x.width ≤ 64 }
     requires way { IsNet out.old.nets (inlet way) }
@@ -127,7 +127,7 @@ pub fn shift_by_levels(
     by: Wire,
     count: u32,
 ) -> Result<Wire, NoMemory>
-    requires fresh { CanFresh out.old.nets }
+    requires fresh { CanFresh out.old }
     requires x { IsNet out.old.nets x }
     requires width { x.width ≡ 2 ^ count }
     requires high { x.width ≤ 64 }

@@ -8,8 +8,7 @@ ghost use Rattle.ap_bits.specs.Operations.{binary_value};
 ghost use Rattle.ap_net.specs.Cells.{IsNet};
 ghost use Rattle.ap_net.specs.Draft.{CanFresh, Makes, SettlesDraft};
 
-use ap_bits::mask;
-use ap_net::NoMemory;
+use ap_bits::{NoMemory, mask};
 use ap_net::builder::Builder;
 use ap_net::cell::{Cell, TwoOp, Wire};
 use ap_unit::{UnitKind, declare_inputs, show_result};
@@ -17,7 +16,7 @@ use ap_unit::{UnitKind, declare_inputs, show_result};
 /// The bits that aren't 1 in both nets.
 #[tactic(auto, using(ap_net::proofs::Laws::laws))]
 fn not_both(out: &mut Builder, a: Wire, b: Wire) -> Result<Wire, NoMemory>
-    requires fresh { CanFresh out.old.nets }
+    requires fresh { CanFresh out.old }
     requires a { IsNet out.old.nets a }
     requires b { IsNet out.old.nets b }
     requires same { b.width ≡ a.width }

@@ -3,15 +3,14 @@ ghost use Rattle.std.specs.Prelude.{◌≡◌, ℕ, ◌+◌, ◌-◌, ◌/◌, �
 ghost use Rattle.ap_net.specs.Cells.{IsNet};
 ghost use Rattle.ap_net.specs.Draft.{CanFresh, Makes, SettlesDraft};
 
-use ap_bits::mask;
-use ap_net::NoMemory;
+use ap_bits::{NoMemory, mask};
 use ap_net::builder::Builder;
 use ap_net::cell::{Cell, Wire};
 
 /// The lowest `count` bits of a net.
 #[tactic(auto, using(ap_net::proofs::Laws::laws))]
 pub fn lower_bits(out: &mut Builder, x: Wire, count: u32) -> Result<Wire, NoMemory>
-    requires fresh { CanFresh out.old.nets }
+    requires fresh { CanFresh out.old }
     requires x { IsNet out.old.nets x }
     requires high { x.width ≤ 64 }
     requires some { 1 ≤ count }
@@ -27,7 +26,7 @@ pub fn lower_bits(out: &mut Builder, x: Wire, count: u32) -> Result<Wire, NoMemo
 /// The bits of a net from the bit `from` on.
 #[tactic(auto, using(ap_net::proofs::Laws::laws))]
 pub fn upper_bits(out: &mut Builder, x: Wire, from: u32) -> Result<Wire, NoMemory>
-    requires fresh { CanFresh out.old.nets }
+    requires fresh { CanFresh out.old }
     requires x { IsNet out.old.nets x }
     requires high { x.width ≤ 64 }
     requires within { from < x.width }
@@ -42,7 +41,7 @@ pub fn upper_bits(out: &mut Builder, x: Wire, from: u32) -> Result<Wire, NoMemor
 /// One bit of a net.
 #[tactic(auto, using(ap_net::proofs::Laws::laws))]
 pub fn bit(out: &mut Builder, x: Wire, place: u32) -> Result<Wire, NoMemory>
-    requires fresh { CanFresh out.old.nets }
+    requires fresh { CanFresh out.old }
     requires x { IsNet out.old.nets x }
     requires within { place < x.width }
     ensures net { IfOk result (λ y. IsNet out.new.nets y × (y.width ≡ 1)) }
@@ -56,7 +55,7 @@ pub fn bit(out: &mut Builder, x: Wire, place: u32) -> Result<Wire, NoMemory>
 /// A bit `count` times.
 #[tactic(auto, using(ap_net::proofs::Laws::laws))]
 pub fn repeated(out: &mut Builder, bit: Wire, count: u32) -> Result<Wire, NoMemory>
-    requires fresh { CanFresh out.old.nets }
+    requires fresh { CanFresh out.old }
     requires bit { IsNet out.old.nets bit }
     requires one_bit { bit.width ≡ 1 }
     requires low { 1 ≤ count }
@@ -74,7 +73,7 @@ pub fn repeated(out: &mut Builder, bit: Wire, count: u32) -> Result<Wire, NoMemo
 /// A net with zeros above it, to `width` bits.
 #[tactic(auto, using(ap_net::proofs::Laws::laws))]
 pub fn widened(out: &mut Builder, x: Wire, width: u32) -> Result<Wire, NoMemory>
-    requires fresh { CanFresh out.old.nets }
+    requires fresh { CanFresh out.old }
     requires x { IsNet out.old.nets x }
     requires low { 1 ≤ x.width }
     requires room { x.width ≤ width }

@@ -5,14 +5,14 @@ ghost use Rattle.ap_net.specs.Draft.{CanFresh, Makes, SettlesDraft};
 ghost use Rattle.ap_comb.specs.Choices.{IsOfWidth, values_of, pair_value};
 
 use crate::parts::bit;
-use ap_net::NoMemory;
+use ap_bits::NoMemory;
 use ap_net::builder::Builder;
 use ap_net::cell::{Cell, Wire};
 
 /// Of two nets the second where the net `bit` is 1, else the first; the first where it is alone.
 #[tactic(auto, using(ap_net::proofs::Laws::laws))]
 fn one_of(out: &mut Builder, bit: Wire, first: Wire, second: Option<Wire>) -> Result<Wire, NoMemory>
-    requires fresh { CanFresh out.old.nets }
+    requires fresh { CanFresh out.old }
     requires bit { IsNet out.old.nets bit }
     requires one_bit { bit.width ≡ 1 }
     requires first { IsNet out.old.nets first }
@@ -41,7 +41,7 @@ fn net_at(nets: &[Wire], place: usize) -> Option<Wire>
 /// One net for each two neighbours: the second of them where the net `bit` is 1, else the first. A last one alone stays.
 #[tactic(auto, using(ap_net::proofs::Laws::laws))]
 fn halved(out: &mut Builder, bit: Wire, level: &[Wire], width: u32) -> Result<Vec<Wire>, NoMemory>
-    requires fresh { CanFresh out.old.nets }
+    requires fresh { CanFresh out.old }
     requires bit { IsNet out.old.nets bit }
     requires one_bit { bit.width ≡ 1 }
     requires level { All (IsOfWidth out.old.nets width) level.now }
@@ -64,7 +64,7 @@ fn halved(out: &mut Builder, bit: Wire, level: &[Wire], width: u32) -> Result<Ve
 /// Of some nets of `width` bits the one whose number `sel` has. What stands for larger numbers is free.
 #[tactic(auto, using(ap_net::proofs::Laws::laws))]
 pub fn select(out: &mut Builder, sel: Wire, choices: &[Wire], width: u32) -> Result<Wire, NoMemory>
-    requires fresh { CanFresh out.old.nets }
+    requires fresh { CanFresh out.old }
     requires sel { IsNet out.old.nets sel }
     requires some { 1 ≤ length choices.now }
     requires room { length choices.now ≤ 2 ^ sel.width }

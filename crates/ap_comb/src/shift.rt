@@ -8,12 +8,14 @@ ghost use Rattle.ap_comb.specs.Moves.{moved_left, moved_right};
 ghost use Rattle.ap_bits.specs.Cards.{allows};
 ghost use Rattle.ap_bits.specs.declared.card.Widths.TheVariants.{PowersOfTwo};
 ghost use Rattle.ap_comb.specs.Shifts.{shift_ops, shift_card};
+ghost use Rattle.ap_bits.specs.Cards.{FitsWidth};
+ghost use Rattle.ap_unit.specs.Built.{IsBlank, IsUnitDraft};
+ghost use Rattle.ap_unit.specs.Named.{NamesPlainly};
 
 use crate::levels::{Way, shift_by_levels};
 use crate::parts::{bit, repeated, upper_bits};
-use ap_bits::BinOp;
 use ap_bits::value::binary;
-use ap_net::NoMemory;
+use ap_bits::{BinOp, NoMemory};
 use ap_net::builder::Builder;
 use ap_net::cell::{Cell, TwoOp, Wire};
 use ap_unit::{UnitKind, declare_inputs, show_result};
@@ -21,7 +23,7 @@ use ap_unit::{UnitKind, declare_inputs, show_result};
 /// Whether a shift is below 2^`count`: none of its bits from `count` on is 1.
 #[tactic(auto, using(ap_net::proofs::Laws::laws))]
 pub fn is_within(out: &mut Builder, shift: Wire, count: u32) -> Result<Wire, NoMemory>
-    requires fresh { CanFresh out.old.nets }
+    requires fresh { CanFresh out.old }
     requires shift { IsNet out.old.nets shift }
     requires high { shift.width ≤ 64 }
     requires bits { count < shift.width }
@@ -38,7 +40,7 @@ pub fn is_within(out: &mut Builder, shift: Wire, count: u32) -> Result<Wire, NoM
 /// The bit that comes in above: the high bit of `a` where the net `signed` is 1, else 0.
 #[tactic(auto, using(ap_net::proofs::Laws::laws))]
 pub fn fill_bit(out: &mut Builder, signed: Wire, a: Wire) -> Result<Wire, NoMemory>
-    requires fresh { CanFresh out.old.nets }
+    requires fresh { CanFresh out.old }
     requires signed { IsNet out.old.nets signed }
     requires one_bit { signed.width ≡ 1 }
     requires a { IsNet out.old.nets a }
@@ -67,7 +69,7 @@ pub struct Control {
 /// a shift to the left of 0 and 3.
 #[tactic(auto, using(ap_net::proofs::Laws::laws))]
 pub fn make_control(out: &mut Builder, sel: Wire, a: Wire) -> Result<Control, NoMemory>
-    requires fresh { CanFresh out.old.nets }
+    requires fresh { CanFresh out.old }
     requires sel { IsNet out.old.nets sel }
     requires two_bits { sel.width ≡ 2 }
     requires a { IsNet out.old.nets a }
@@ -93,7 +95,7 @@ pub fn shift_near(
     b: Wire,
     count: u32,
 ) -> Result<Wire, NoMemory>
-    requires fresh { CanFresh out.old.nets }
+    requires fresh { CanFresh out.old }
     requires low { IsNet out.old.nets control.low × (control.low.width ≡ 1) }
     requires high { IsNet out.old.nets control.high × (control.high.width ≡ 1) }
     requires fill { IsNet out.old.nets control.fill × (control.fill.width ≡ 1) }
@@ -122,7 +124,7 @@ pub fn limited(
     b: Wire,
     count: u32,
 ) -> Result<Wire, NoMemory>
-    requires fresh { CanFresh out.old.nets }
+    requires fresh { CanFresh out.old }
     requires low { IsNet out.old.nets control.low × (control.low.width ≡ 1) }
     requires high { IsNet out.old.nets control.high × (control.high.width ≡ 1) }
     requires fill { IsNet out.old.nets control.fill × (control.fill.width ≡ 1) }
@@ -147,7 +149,7 @@ pub fn limited(
 /// The operation `sel` of a shifter on nets of 2^`count` bits.
 #[tactic(auto, using(ap_net::proofs::Laws::laws))]
 pub fn shifted(out: &mut Builder, sel: Wire, a: Wire, b: Wire, count: u32) -> Result<Wire, NoMemory>
-    requires fresh { CanFresh out.old.nets }
+    requires fresh { CanFresh out.old }
     requires sel { IsNet out.old.nets sel }
     requires two_bits { sel.width ≡ 2 }
     requires a { IsNet out.old.nets a }
@@ -222,7 +224,14 @@ impl UnitKind for Shift {
         binary(operation(op), w, a, b)
     }
 
-    fn build(&self, w: u32, out: &mut Builder) -> Result<(), NoMemory> {
+    /// Builds the unit; the wires of its module are named `n` and digits, and there are no registers.
+    fn build(&self, w: u32, out: &mut Builder) -> Result<(), NoMemory>
+        requires width { FitsWidth shift_card w }
+        requires new { IsBlank out.old }
+        ensures name { OnOk result (out.new.name ≡ out.old.name) }
+        ensures unit { OnOk result (IsUnitDraft out.new shift_card w) }
+        ensures names { OnOk result (NamesPlainly out.new) }
+    {
         let inputs = declare_inputs(out, 2, w)?;
         let y = shifted(out, inputs.sel, inputs.a, inputs.b, levels_of(w))?;
         show_result(out, inputs, y)

@@ -5,14 +5,14 @@ ghost use Rattle.ap_net.specs.Draft.{CanFresh, Makes, SettlesDraft};
 ghost use Rattle.ap_bits.specs.Operations.{ones_among};
 
 use crate::parts::{bit, widened};
-use ap_net::NoMemory;
+use ap_bits::NoMemory;
 use ap_net::builder::Builder;
 use ap_net::cell::{Cell, TwoOp, Wire};
 
 /// One bit of a net, in `width` bits.
 #[tactic(auto, using(ap_net::proofs::Laws::laws))]
 fn wide_bit(out: &mut Builder, x: Wire, place: u32, width: u32) -> Result<Wire, NoMemory>
-    requires fresh { CanFresh out.old.nets }
+    requires fresh { CanFresh out.old }
     requires x { IsNet out.old.nets x }
     requires within { place < x.width }
     requires some { 1 ≤ width }
@@ -29,7 +29,7 @@ fn wide_bit(out: &mut Builder, x: Wire, place: u32, width: u32) -> Result<Wire, 
 /// How many of the `count` bits of `x` from the bit `low` on are 1, in `width` bits: the sum of those of each half.
 #[tactic(auto, using(ap_net::proofs::Laws::laws))]
 fn ones_from(out: &mut Builder, x: Wire, low: u32, count: u32, width: u32) -> Result<Wire, NoMemory>
-    requires fresh { CanFresh out.old.nets }
+    requires fresh { CanFresh out.old }
     requires x { IsNet out.old.nets x }
     requires x_high { x.width ≤ 64 }
     requires some { 1 ≤ count }
@@ -54,7 +54,7 @@ fn ones_from(out: &mut Builder, x: Wire, low: u32, count: u32, width: u32) -> Re
 /// How many bits of a net are 1, in as many bits as it has. The sums have no more bits than are needed for 64.
 #[tactic(auto, using(ap_net::proofs::Laws::laws))]
 pub fn ones(out: &mut Builder, x: Wire) -> Result<Wire, NoMemory>
-    requires fresh { CanFresh out.old.nets }
+    requires fresh { CanFresh out.old }
     requires x { IsNet out.old.nets x }
     requires low { 1 ≤ x.width }
     requires high { x.width ≤ 64 }

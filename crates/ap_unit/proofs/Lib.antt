@@ -3,3 +3,4 @@ pub mod Single
 pub mod Names
 pub mod Laws
 pub mod Walked
+pub mod PlainNames

@@ -10,7 +10,7 @@ use Rattle.ap_bits.specs.declared.card.Card.{Card}
 use Rattle.ap_net.specs.Names.{AreDistinct}
 use Rattle.ap_unit.specs.Kinds.{StoodEarlier, place_of, names_of}
 
-Each-by_get : {X : Type 0} (P : X → Type 0) (xs : List X) → ((j : ℕ) (x : X) → slice_get xs j ≡ Some x → P x) → Each P xs
+pub Each-by_get : {X : Type 0} (P : X → Type 0) (xs : List X) → ((j : ℕ) (x : X) → slice_get xs j ≡ Some x → P x) → Each P xs
 Each-by_get P [] h = tt
 Each-by_get P (x ∷ xs) h = (h 0 x refl, Each-by_get P xs (λ j y at. h (suc j) y at))
 

@@ -12,9 +12,10 @@ pub record IsBlank (d : Draft) : Type 0 where
   pub nets : d.nets ≡ []
   pub assigns : d.assigns ≡ []
   pub nexts : d.nexts ≡ []
+  pub instances : d.instances ≡ []
 
 -- the draft may be finished, and each module that is made of it is a unit of the card
 pub record IsUnitDraft (d : Draft) (card : Card) (w : ℕ) : Type 0 where
-  pub driven : IsDriven d.nets d.assigns d.nexts
+  pub driven : IsDriven d.nets d.assigns d.nexts d.instances
   pub port : 0 < length (ports_among d.nets)
   pub unit : (m : ModuleText) → IsModule m → IsFinished d m → IsUnit m card w

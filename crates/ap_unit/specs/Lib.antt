@@ -8,3 +8,4 @@ pub mod Kinds
 pub mod Shelves
 pub mod Faults
 pub mod Rows
+pub mod Named

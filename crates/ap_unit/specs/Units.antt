@@ -64,8 +64,10 @@ abbrev pub Behaves : Latency → ModuleText → Card → ℕ → Type 0
 Behaves One m card w = Computes m card w
 Behaves WidthPlusOne m card w = ComputesInCycles m card w
 
--- The module is a unit of the card at w bits: it has the ports due, no net of it depends on itself, and it behaves as the card says.
+-- The module is a unit of the card at w bits: it has the ports due and no instances, no net of it depends on itself, and it
+-- behaves as the card says.
 pub record IsUnit (m : ModuleText) (card : Card) (w : ℕ) : Type 0 where
   pub ports : m.ports ≡ unit_ports card w
+  pub instances : m.instances ≡ []
   pub ordered : IsOrdered m.assigns
   pub behaves : Behaves card.latency m card w

@@ -4,7 +4,7 @@ ghost use Rattle.ap_bits.specs.Cards.{FitsWidth, allows, latency_at};
 ghost use Rattle.ap_unit.specs.Cards.{IsKindCard, operation_names, operation_value};
 ghost use Rattle.ap_unit.specs.Built.{IsBlank, IsUnitDraft};
 
-use ap_net::NoMemory;
+use ap_bits::NoMemory;
 use ap_net::builder::Builder;
 
 /// A kind of unit. Its meaning is its card: its name, its operations in order, its widths and its latency.

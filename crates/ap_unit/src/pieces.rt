@@ -5,9 +5,10 @@ ghost use Rattle.ap_bits.specs.Cards.{select_width};
 ghost use Rattle.ap_net.specs.Cells.{IsNet};
 ghost use Rattle.ap_net.specs.Draft.{CanFresh, Makes};
 ghost use Rattle.ap_unit.specs.Built.{IsBlank, IsUnitDraft};
+ghost use Rattle.ap_unit.specs.Named.{NamesPlainly};
 ghost use Rattle.ap_unit.specs.Pieces.{with_inputs, HasValue};
 
-use ap_net::NoMemory;
+use ap_bits::NoMemory;
 use ap_net::builder::Builder;
 use ap_net::cell::{Cell, Wire};
 
@@ -32,7 +33,7 @@ pub fn declare_inputs(out: &mut Builder, select: u32, w: u32) -> Result<Inputs, 
     ensures ok { OnOk result (out.new ≡ with_inputs out.old.name select w) }
     ensures inputs { IfOk result (λ i. i ≡ record { sel = record { number = 0; width = select }; a = record { number = 1; width = w }; b = record { number = 2; width = w } }) }
     ensures nets { IfOk result (λ i. IsNet out.new.nets i.sel × IsNet out.new.nets i.a × IsNet out.new.nets i.b) }
-    ensures fresh { OnOk result (CanFresh out.new.nets) }
+    ensures fresh { OnOk result (CanFresh out.new) }
 {
     let sel = out.input(b"sel", select)?;
     let a = out.input(b"a", w)?;
@@ -41,7 +42,7 @@ pub fn declare_inputs(out: &mut Builder, select: u32, w: u32) -> Result<Inputs, 
 }
 
 /// Shows a net as the output `y`. Where the builder holds the declared inputs and fresh wires over them, and the net has
-/// the value of the operation that `sel` chooses, what it holds afterwards is a unit.
+/// the value of the operation that `sel` chooses, what it holds afterwards is a unit, whose wires are named `n` and digits.
 pub fn show_result(out: &mut Builder, inputs: Inputs, y: Wire) -> Result<(), NoMemory>
     requires made { Makes (with_inputs out.old.name inputs.sel.width inputs.a.width) out.old }
     requires net { IsNet out.old.nets y }
@@ -49,6 +50,7 @@ pub fn show_result(out: &mut Builder, inputs: Inputs, y: Wire) -> Result<(), NoM
     requires low { 1 ≤ y.width }
     requires high { y.width ≤ 64 }
     ensures name { OnOk result (out.new.name ≡ out.old.name) }
+    ensures names { OnOk result (NamesPlainly out.new) }
     ensures unit { OnOk result ((card : Card) → card.latency ≡ One → inputs.sel.width ≡ select_width card → HasValue out.old y card → IsUnitDraft out.new card y.width) }
 {
     out.show(b"y", y.width, Cell::Copy(y))?;

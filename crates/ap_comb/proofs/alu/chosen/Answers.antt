@@ -1,6 +1,6 @@
-use Rattle.std.proofs.Common.{◌≡◌, ◌<◌, length, ap, sym, ◌∙◌, arith}
+use Rattle.std.proofs.Common.{◌≡◌, ◌<◌, length, ap, sym, ◌∙◌, arith, rules}
 use Rattle.std.specs.Prelude.{slice_index}
-use Rattle.ap_net.proofs.Laws.{Makes-trans}
+use Rattle.ap_net.proofs.Laws.{Makes-trans, laws}
 use Rattle.ap_comb.proofs.AluResults.{result_at}
 use Rattle.ap_comb.proofs.alu.chosen.Goals as goal
 
@@ -16,3 +16,6 @@ returns-clause-value c = λ read s.
 
 pub returns-clause-makes : goal.returns-clause-makes
 returns-clause-makes c = Makes-trans _ _ _ c.in_ok-made.ensures.makes c.in_ok-result.ensures.makes
+
+pub select-requires-clause-sel : goal.select-requires-clause-sel
+select-requires-clause-sel c = let made' = c.in_ok-made.ensures in search (rules, laws)

@@ -1,5 +1,5 @@
-use Rattle.std.proofs.Common.{◌∙◌, ◌<◌, ◌^◌}
-use Rattle.ap_net.proofs.Laws.{Makes-trans}
+use Rattle.std.proofs.Common.{◌∙◌, ◌<◌, ◌^◌, rules}
+use Rattle.ap_net.proofs.Laws.{Makes-trans, laws}
 use Rattle.ap_comb.proofs.Signs.{signs_tell}
 use Rattle.ap_comb.proofs.alu.is_less.Goals as goal
 
@@ -15,3 +15,15 @@ returns-clause-value c = λ read s.
 
 pub returns-clause-makes : goal.returns-clause-makes
 returns-clause-makes c = Makes-trans _ _ _ c.in_ok-first.ensures.makes (Makes-trans _ _ _ c.in_ok-second.ensures.makes (Makes-trans _ _ _ c.in_ok-below.ensures.makes c.in_ok-less.ensures.makes))
+
+pub bit-requires-2-clause-x : goal.bit-requires-2-clause-x
+bit-requires-2-clause-x c = let first' = c.in_ok-first.ensures in search (rules, laws)
+
+pub make-requires-clause-fits : goal.make-requires-clause-fits
+make-requires-clause-fits c = let first' = c.in_ok-first.ensures in let second' = c.in_ok-second.ensures in search (rules, laws)
+
+pub by_signs-requires-clause-first : goal.by_signs-requires-clause-first
+by_signs-requires-clause-first c = let first' = c.in_ok-first.ensures in let second' = c.in_ok-second.ensures in let below' = c.in_ok-below.ensures in search (rules, laws)
+
+pub by_signs-requires-clause-second : goal.by_signs-requires-clause-second
+by_signs-requires-clause-second c = let first' = c.in_ok-first.ensures in let second' = c.in_ok-second.ensures in let below' = c.in_ok-below.ensures in search (rules, laws)

@@ -1,5 +1,5 @@
-use Rattle.std.proofs.Common.{◌∙◌, ◌≤◌, ◌==◌, arith}
-use Rattle.ap_net.proofs.Laws.{Makes-trans}
+use Rattle.std.proofs.Common.{◌∙◌, ◌≤◌, ◌==◌, arith, rules}
+use Rattle.ap_net.proofs.Laws.{Makes-trans, laws}
 use Rattle.ap_comb.proofs.MovedTwice.{right_parts}
 use Rattle.ap_comb.proofs.levels.move_right.Goals as goal
 
@@ -13,3 +13,9 @@ returns-clause-value c = λ read s.
 
 pub returns-clause-makes : goal.returns-clause-makes
 returns-clause-makes c = Makes-trans _ _ _ c.in_ok-above.ensures.makes (Makes-trans _ _ _ c.in_ok-kept.ensures.makes c.in_ok-moved.ensures.makes)
+
+pub upper_bits-requires-clause-x : goal.upper_bits-requires-clause-x
+upper_bits-requires-clause-x c = let above' = c.in_ok-above.ensures in search (rules, laws)
+
+pub make-requires-clause-fits : goal.make-requires-clause-fits
+make-requires-clause-fits c = let above' = c.in_ok-above.ensures in let kept' = c.in_ok-kept.ensures in search (rules, laws)

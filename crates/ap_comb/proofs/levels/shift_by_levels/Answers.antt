@@ -1,7 +1,7 @@
-use Rattle.std.proofs.Common.{◌≡◌, ◌+◌, ◌%◌, ◌^◌, ◌<◌, ◌≤◌, refl, sym, ap, ◌∙◌, arith}
+use Rattle.std.proofs.Common.{◌≡◌, ◌+◌, ◌%◌, ◌^◌, ◌<◌, ◌≤◌, refl, sym, ap, ◌∙◌, arith, rules}
 use Rattle.std.proofs.Math.Nat.{mod-one}
 use Rattle.std.proofs.lemmas.Nat.{pow_pos}
-use Rattle.ap_net.proofs.Laws.{Makes-refl, Makes-trans}
+use Rattle.ap_net.proofs.Laws.{Makes-refl, Makes-trans, laws}
 use Rattle.ap_comb.specs.Moves.{moved}
 use Rattle.ap_comb.proofs.MovedTwice.{moved_none}
 use Rattle.ap_comb.proofs.LevelSteps.{level_more, level_within, levels_few, level_places}
@@ -52,3 +52,12 @@ returns-clause-value c = λ read s.
     let last = c.loop-i.invariant.value read s in
     let all : c.loop-i.i ≡ c.args.count = omega arith in
     (last.0, last.1 ∙ ap (λ n. moved read c.args.way c.args.x.width (read c.args.x.number) (read c.args.by.number % 2 ^ n)) all)
+
+pub bit-requires-clause-x : goal.bit-requires-clause-x
+bit-requires-clause-x c = let h = c.loop-i.invariant in search (rules, laws)
+
+pub level-requires-clause-x : goal.level-requires-clause-x
+level-requires-clause-x c = let h = c.loop-i.invariant in let by' = c.in_ok-by.ensures in search (rules, laws)
+
+pub level-requires-clause-way : goal.level-requires-clause-way
+level-requires-clause-way c = let h = c.loop-i.invariant in let by' = c.in_ok-by.ensures in search (rules, laws)

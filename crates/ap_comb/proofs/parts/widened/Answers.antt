@@ -1,5 +1,5 @@
-use Rattle.std.proofs.Common.{◌∙◌, arith}
-use Rattle.ap_net.proofs.Laws.{Makes-trans, Makes-refl}
+use Rattle.std.proofs.Common.{◌∙◌, arith, rules}
+use Rattle.ap_net.proofs.Laws.{Makes-trans, Makes-refl, laws}
 use Rattle.ap_comb.proofs.parts.widened.Goals as goal
 
 pub returns-then-width-x-clause-makes : goal.returns-then-width-x-clause-makes
@@ -13,3 +13,6 @@ returns-clause-value c = λ read s.
 
 pub returns-clause-makes : goal.returns-clause-makes
 returns-clause-makes c = Makes-trans _ _ _ c.in_ok-zeros.ensures.makes c.in_ok-wide.ensures.makes
+
+pub make-requires-2-clause-fits : goal.make-requires-2-clause-fits
+make-requires-2-clause-fits c = let zeros' = c.in_ok-zeros.ensures in search (rules, laws)

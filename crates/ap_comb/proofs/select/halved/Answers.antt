@@ -2,7 +2,7 @@ use Rattle.std.proofs.Common.{◌≡◌, ◌+◌, ◌*◌, ◌<◌, ◌/◌, len
 use Rattle.std.specs.Prelude.{All, IfSome}
 use Rattle.std.proofs.lemmas.List.Elements.{All-push, All-weaker, All-nil}
 use Rattle.std.proofs.lemmas.Option.{slice_get-get_or}
-use Rattle.ap_net.proofs.Laws.{Makes-refl, Makes-trans}
+use Rattle.ap_net.proofs.Laws.{IsNet-Makes, Makes-refl, Makes-trans, laws}
 use Rattle.ap_comb.specs.Choices.{IsOfWidth}
 use Rattle.ap_comb.proofs.Halves.{halves_more, width_at, IsOfWidth-Makes}
 use Rattle.ap_comb.proofs.select.halved.Goals as goal
@@ -42,3 +42,11 @@ pub returns-clause-value : goal.returns-clause-value
 returns-clause-value c = λ read s.
     let h = c.loop-i.invariant.value read s in
     (h.0, λ j lt is. h.1 j lt (omega arith) is)
+
+pub one_of-requires-clause-bit : goal.one_of-requires-clause-bit
+one_of-requires-clause-bit c = let h = c.loop-i.invariant in search (rules, laws)
+
+pub one_of-requires-clause-first : goal.one_of-requires-clause-first
+one_of-requires-clause-first c =
+    let inside : 2 * c.loop-i.i < length c.args.level.now = omega arith in
+    IsNet-Makes _ _ _ c.loop-i.invariant.makes (c.requires.level (2 * c.loop-i.i) (record { number = 0; width = 0 }) inside).net

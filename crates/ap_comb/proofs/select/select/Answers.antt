@@ -1,12 +1,13 @@
-use Rattle.std.proofs.Common.{◌≡◌, ℕ, ◌+◌, ◌-◌, ◌*◌, ◌/◌, ◌^◌, ◌<◌, ◌≤◌, suc, zero, length, refl, sym, ap, ◌∙◌, arith, Some, ⊎_elim}
+use Rattle.std.proofs.Common.{◌≡◌, ℕ, ◌+◌, ◌-◌, ◌*◌, ◌/◌, ◌^◌, ◌<◌, ◌≤◌, suc, zero, length, refl, sym, ap, ◌∙◌, arith, Some, ⊎_elim, rules}
 use Rattle.std.specs.Prelude.{slice_get, slice_index}
 use Rattle.std.proofs.Math.Nat.{pow-suc}
 use Rattle.std.proofs.lemmas.Bool.{cases_lt}
 use Rattle.std.proofs.lemmas.Nat.{shr-shr}
 use Rattle.std.proofs.lemmas.Option.{slice_get_read}
-use Rattle.ap_net.proofs.Laws.{Makes-refl, Makes-trans}
-use Rattle.ap_comb.specs.Choices.{values_of}
-use Rattle.ap_comb.proofs.Halves.{value_at}
+use Rattle.ap_net.proofs.Laws.{Makes-refl, Makes-trans, laws}
+use Rattle.std.proofs.lemmas.List.Elements.{All-weaker}
+use Rattle.ap_comb.specs.Choices.{IsOfWidth, values_of}
+use Rattle.ap_comb.proofs.Halves.{value_at, IsOfWidth-Makes}
 use Rattle.ap_comb.proofs.select.select.Goals as goal
 
 -- where more than one is left there is a bit
@@ -70,3 +71,11 @@ returns-clause-value c = λ read s.
           let at : slice_get c.loop-sel.level.items 0 ≡ Some c.index.result.now = slice_get_read c.loop-sel.level.items (length c.loop-sel.level.items) 0 c.index.result.now refl first c.index.ensures in
           sym (value_at read c.loop-sel.level.items 0 c.index.result.now at) ∙ ap (slice_index (values_of read c.loop-sel.level.items)) (sym none) ∙ old.1,
     )
+
+pub bit-requires-clause-x : goal.bit-requires-clause-x
+bit-requires-clause-x c = let h = c.loop-sel.invariant in search (rules, laws)
+
+pub halved-requires-clause-level : goal.halved-requires-clause-level
+halved-requires-clause-level c =
+    let b = c.in_ok-chosen.ensures.makes in
+    rw c.deref.ensures.value (All-weaker (IsOfWidth c.loop-sel.out.nets c.args.width) (IsOfWidth c.bit.new.out.nets c.args.width) (λ x. IsOfWidth-Makes _ _ c.args.width x b) _ c.loop-sel.invariant.nets)

@@ -1,7 +1,7 @@
-use Rattle.std.proofs.Common.{◌∙◌, ◌^◌, ap, Bool, ℕ}
+use Rattle.std.proofs.Common.{◌∙◌, ◌^◌, ap, Bool, ℕ, rules}
 use Rattle.std.specs.Prelude.{if◌then◌else◌}
 use Rattle.std.proofs.lemmas.Nat.{pow_pos}
-use Rattle.ap_net.proofs.Laws.{Makes-trans}
+use Rattle.ap_net.proofs.Laws.{Makes-trans, laws}
 use Rattle.ap_comb.proofs.Shifted.{within_test}
 use Rattle.ap_comb.proofs.shift.is_within.Goals as goal
 
@@ -17,3 +17,6 @@ returns-clause-value c = λ read s.
 
 pub returns-clause-makes : goal.returns-clause-makes
 returns-clause-makes c = Makes-trans _ _ _ c.in_ok-beyond.ensures.makes (Makes-trans _ _ _ c.in_ok-zero.ensures.makes c.in_ok-within.ensures.makes)
+
+pub make-requires-2-clause-fits : goal.make-requires-2-clause-fits
+make-requires-2-clause-fits c = let beyond' = c.in_ok-beyond.ensures in let zero' = c.in_ok-zero.ensures in search (rules, laws)

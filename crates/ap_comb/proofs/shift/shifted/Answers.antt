@@ -1,6 +1,6 @@
-use Rattle.std.proofs.Common.{◌∙◌, ◌≤◌, arith}
+use Rattle.std.proofs.Common.{◌∙◌, ◌≤◌, arith, rules}
 use Rattle.std.proofs.lemmas.Nat.{pow_pos}
-use Rattle.ap_net.proofs.Laws.{Makes-trans}
+use Rattle.ap_net.proofs.Laws.{Makes-trans, laws}
 use Rattle.ap_comb.proofs.BitCounts.{count_below}
 use Rattle.ap_comb.proofs.Shifted.{shown_is}
 use Rattle.ap_comb.proofs.shift.shifted.Goals as goal
@@ -24,3 +24,21 @@ shift_near-requires-clause-bits c = omega (arith, count_below c.args.count)
 
 pub limited-requires-clause-bits : goal.limited-requires-clause-bits
 limited-requires-clause-bits c = omega (arith, count_below c.args.count)
+
+pub shift_near-requires-clause-a : goal.shift_near-requires-clause-a
+shift_near-requires-clause-a c = let control' = c.in_ok-control.ensures in search (rules, laws)
+
+pub shift_near-requires-clause-b : goal.shift_near-requires-clause-b
+shift_near-requires-clause-b c = let control' = c.in_ok-control.ensures in search (rules, laws)
+
+pub limited-requires-clause-low : goal.limited-requires-clause-low
+limited-requires-clause-low c = let control' = c.in_ok-control.ensures in let near' = c.in_ok-near.ensures in search (rules, laws)
+
+pub limited-requires-clause-high : goal.limited-requires-clause-high
+limited-requires-clause-high c = let control' = c.in_ok-control.ensures in let near' = c.in_ok-near.ensures in search (rules, laws)
+
+pub limited-requires-clause-fill : goal.limited-requires-clause-fill
+limited-requires-clause-fill c = let control' = c.in_ok-control.ensures in let near' = c.in_ok-near.ensures in search (rules, laws)
+
+pub limited-requires-clause-b : goal.limited-requires-clause-b
+limited-requires-clause-b c = let control' = c.in_ok-control.ensures in let near' = c.in_ok-near.ensures in search (rules, laws)

@@ -1,5 +1,5 @@
-use Rattle.std.proofs.Common.{◌≤◌, ◌/◌, ◌∙◌, arith}
-use Rattle.ap_net.proofs.Laws.{Makes-trans}
+use Rattle.std.proofs.Common.{◌≤◌, ◌/◌, ◌∙◌, arith, rules}
+use Rattle.ap_net.proofs.Laws.{IsNet-Makes, Makes-trans, laws}
 use Rattle.ap_comb.proofs.BitCounts.{halves}
 use Rattle.ap_comb.proofs.sums.+ones_from.Goals as goal
 
@@ -16,3 +16,12 @@ returns-clause-value t c = λ read s.
 
 pub returns-clause-makes : goal.returns-clause-makes
 returns-clause-makes t c = Makes-trans _ _ _ c.in_ok-lower.ensures.makes (Makes-trans _ _ _ c.in_ok-upper.ensures.makes c.in_ok-sum.ensures.makes)
+
+pub ones_from-requires-2 : goal.ones_from-requires-2
+ones_from-requires-2 t c =
+    let fresh = c.in_ok-lower.ensures.makes.fresh c.requires.fresh in
+    let x = IsNet-Makes _ _ _ c.in_ok-lower.ensures.makes c.requires.x in
+    search rules
+
+pub make-requires-clause-fits : goal.make-requires-clause-fits
+make-requires-clause-fits t c = let lower' = c.in_ok-lower.ensures in let upper' = c.in_ok-upper.ensures in search (rules, laws)
