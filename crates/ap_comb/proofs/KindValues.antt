@@ -84,41 +84,22 @@ count_operation zero h = (Pop, refl)
 count_operation (suc zero) h = (Clz, refl)
 count_operation (suc (suc n)) h = absurd (omega arith)
 
--- the declared inputs
-abbrev pub the_inputs : ℕ → ℕ → Inputs
-the_inputs s w = record { sel = record { number = 0; width = s }; a = record { number = 1; width = w }; b = record { number = 2; width = w } }
-
-pub shift_has_value : (inputs : Inputs) (w : ℕ) (d : Draft) (y : Wire) → inputs ≡ the_inputs 2 w → y.width ≡ inputs.a.width
+pub shift_has_value : (d : Draft) (inputs : Inputs) (y : Wire)
     → ((read : ℕ → ℕ) → SettlesDraft d read → (op : BinOp) → slice_get shift_ops (read inputs.sel.number) ≡ Some op → read y.number ≡ binary_value op inputs.a.width (read inputs.a.number) (read inputs.b.number))
-    → HasValue d y shift_card
-shift_has_value inputs w d y is wide value read s lt =
-    let op = shift_operation (read 0) lt in
-    let given : slice_get shift_ops (read inputs.sel.number) ≡ Some op.0 = ap (λ (i : Inputs). slice_get shift_ops (read i.sel.number)) is ∙ op.1 in
-    value read s op.0 given ∙ ap (λ (i : Inputs). binary_value op.0 i.a.width (read i.a.number) (read i.b.number)) is
-    ∙ shift_value w (read 0) (read 1) (read 2) op.0 op.1
-    ∙ ap (λ v. operation_value shift_card v (read 0) (read 1) (read 2)) (sym (wide ∙ ap (λ (i : Inputs). i.a.width) is))
+    → HasValue d inputs y shift_card
+shift_has_value d inputs y value read s lt =
+    let op = shift_operation (read inputs.sel.number) lt in
+    value read s op.0 op.1 ∙ shift_value inputs.a.width (read inputs.sel.number) (read inputs.a.number) (read inputs.b.number) op.0 op.1
 
-pub count_has_value : (inputs : Inputs) (w : ℕ) (d : Draft) (y : Wire) → inputs ≡ the_inputs 1 w → y.width ≡ inputs.a.width
+pub count_has_value : (d : Draft) (inputs : Inputs) (y : Wire)
     → ((read : ℕ → ℕ) → SettlesDraft d read → (op : UnOp) → slice_get count_ops (read inputs.sel.number) ≡ Some op → read y.number ≡ unary_value op inputs.a.width (read inputs.a.number))
-    → HasValue d y count_card
-count_has_value inputs w d y is wide value read s lt =
-    let op = count_operation (read 0) lt in
-    let given : slice_get count_ops (read inputs.sel.number) ≡ Some op.0 = ap (λ (i : Inputs). slice_get count_ops (read i.sel.number)) is ∙ op.1 in
-    value read s op.0 given ∙ ap (λ (i : Inputs). unary_value op.0 i.a.width (read i.a.number)) is
-    ∙ count_value w (read 0) (read 1) (read 2) op.0 op.1
-    ∙ ap (λ v. operation_value count_card v (read 0) (read 1) (read 2)) (sym (wide ∙ ap (λ (i : Inputs). i.a.width) is))
+    → HasValue d inputs y count_card
+count_has_value d inputs y value read s lt =
+    let op = count_operation (read inputs.sel.number) lt in
+    value read s op.0 op.1 ∙ count_value inputs.a.width (read inputs.sel.number) (read inputs.a.number) (read inputs.b.number) op.0 op.1
 
-pub avg_has_value : (inputs : Inputs) (w : ℕ) (d : Draft) (y : Wire) → inputs ≡ the_inputs 1 w → 1 ≤ w → y.width ≡ inputs.a.width
+pub avg_has_value : (d : Draft) (inputs : Inputs) (y : Wire) → 1 ≤ inputs.a.width
     → ((read : ℕ → ℕ) → SettlesDraft d read → read y.number ≡ binary_value Srl inputs.a.width (binary_value Add inputs.a.width (read inputs.a.number) (read inputs.b.number)) 1)
-    → HasValue d y avg_card
-avg_has_value inputs w d y is some wide value read s lt =
-    value read s ∙ ap (λ (i : Inputs). binary_value Srl i.a.width (binary_value Add i.a.width (read i.a.number) (read i.b.number)) 1) is
-    ∙ avg_value w (read 0) (read 1) (read 2) some lt
-    ∙ ap (λ v. operation_value avg_card v (read 0) (read 1) (read 2)) (sym (wide ∙ ap (λ (i : Inputs). i.a.width) is))
-
--- what shows such a value is a unit
-pub unit_shown : (inputs : Inputs) (w s : ℕ) (d new : Draft) (y : Wire) (card : Card) → inputs ≡ the_inputs s w → y.width ≡ inputs.a.width → card.latency ≡ One → s ≡ select_width card → HasValue d y card
-    → ((c : Card) → c.latency ≡ One → inputs.sel.width ≡ select_width c → HasValue d y c → IsUnitDraft new c y.width)
-    → IsUnitDraft new card w
-unit_shown inputs w s d new y card is wide one select value shows =
-    subst (IsUnitDraft new card) (wide ∙ ap (λ (i : Inputs). i.a.width) is) (shows card one (ap (λ (i : Inputs). i.sel.width) is ∙ select) value)
+    → HasValue d inputs y avg_card
+avg_has_value d inputs y some value read s lt =
+    value read s ∙ avg_value inputs.a.width (read inputs.sel.number) (read inputs.a.number) (read inputs.b.number) some lt

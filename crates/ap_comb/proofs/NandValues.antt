@@ -13,7 +13,7 @@ use Rattle.ap_net.specs.Draft.{Draft, SettlesDraft}
 use Rattle.ap_unit.specs.declared.pieces.Inputs.{Inputs}
 use Rattle.ap_unit.specs.Cards.{operation_value}
 use Rattle.ap_unit.specs.Pieces.{HasValue}
-use Rattle.ap_comb.proofs.KindValues.{the_inputs, on_both_value}
+use Rattle.ap_comb.proofs.KindValues.{on_both_value}
 
 abbrev pub nand_card : Card
 nand_card = record { name = codes "nand"; ops = record { name = codes "nand"; term = Bin Xor (Bin And A B) (Const 18446744073709551615) } ∷ []; widths = Any; latency = One }
@@ -35,10 +35,8 @@ nand_value w zero a b high lt =
     sym (term_value-bin Xor (Bin And A B) (Const 18446744073709551615) w a b ∙ (λ i. bit_xor (on_both_value And w a b i) ((term_value-const 18446744073709551615 w a b ∙ low_ones w high) i)))
 nand_value w (suc n) a b high lt = absurd (omega arith)
 
-pub nand_has_value : (inputs : Inputs) (w : ℕ) (d : Draft) (y : Wire) → inputs ≡ the_inputs 1 w → w ≤ 64 → y.width ≡ inputs.a.width
+pub nand_has_value : (d : Draft) (inputs : Inputs) (y : Wire) → inputs.a.width ≤ 64
     → ((read : ℕ → ℕ) → SettlesDraft d read → read y.number ≡ bit_xor (bit_and (read inputs.a.number) (read inputs.b.number)) (2 ^ inputs.a.width - 1))
-    → HasValue d y nand_card
-nand_has_value inputs w d y is high wide value read s lt =
-    value read s ∙ ap (λ (i : Inputs). bit_xor (bit_and (read i.a.number) (read i.b.number)) (2 ^ i.a.width - 1)) is
-    ∙ nand_value w (read 0) (read 1) (read 2) high lt
-    ∙ ap (λ v. operation_value nand_card v (read 0) (read 1) (read 2)) (sym (wide ∙ ap (λ (i : Inputs). i.a.width) is))
+    → HasValue d inputs y nand_card
+nand_has_value d inputs y high value read s lt =
+    value read s ∙ nand_value inputs.a.width (read inputs.sel.number) (read inputs.a.number) (read inputs.b.number) high lt

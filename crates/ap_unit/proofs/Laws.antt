@@ -1,5 +1,6 @@
--- What those who write kinds need: a test that tells that a card keeps the rules of cards. On a card that is written out it computes.
-use Rattle.std.proofs.Common.{◌≡◌, ◌≢◌, ℕ, ◌&&◌, Bool, true, List, [], ◌∷◌, length}
+-- What those who write kinds need: a test that tells that a card keeps the rules of cards, which computes on a card that is
+-- written out, and how show_result tells that a unit was built.
+use Rattle.std.proofs.Common.{◌≡◌, ◌≢◌, ℕ, ◌&&◌, Bool, true, List, [], ◌∷◌, length, ap, subst, ◌∙◌}
 use Rattle.std.specs.Prelude.{nat_le, not, IsTrue}
 use Rattle.std.specs.List.{AllByRecursion as Each, list_all}
 use Rattle.std.specs.Str.{bytes_eq}
@@ -8,6 +9,13 @@ use Rattle.std.proofs.lemmas.Slice.Eq.{bytes_eq-Decides}
 use Rattle.ap_bits.specs.declared.card.Card.{Card}
 use Rattle.ap_bits.specs.Names.{is_name, IsName}
 use Rattle.ap_net.specs.Names.{AreDistinct}
+use Rattle.ap_bits.specs.declared.card.Latency.TheVariants.{One}
+use Rattle.ap_bits.specs.Cards.{select_width}
+use Rattle.ap_net.specs.declared.cell.Wire.{Wire}
+use Rattle.ap_net.specs.Draft.{Draft}
+use Rattle.ap_unit.specs.declared.pieces.Inputs.{Inputs}
+use Rattle.ap_unit.specs.Built.{IsUnitDraft}
+use Rattle.ap_unit.specs.Pieces.{input_wires, HasValue}
 use Rattle.ap_unit.specs.Cards.{operation_names, IsKindCard}
 
 -- whether no name stands twice
@@ -55,3 +63,10 @@ IsKindCard-is_kind_card card h =
     }
 
 pub ruleset kind_cards = (IsKindCard-is_kind_card)
+
+-- A unit was built at the width of the declared inputs: where the net that is shown has the value of the card's operations, this is
+-- what show_result's clause gives.
+pub shown_unit : (card : Card) (s w : ℕ) (inputs : Inputs) (d new : Draft) (y : Wire) → inputs ≡ input_wires s w → card.latency ≡ One → s ≡ select_width card → HasValue d inputs y card
+    → ((c : Card) → c.latency ≡ One → inputs.sel.width ≡ select_width c → HasValue d inputs y c → IsUnitDraft new c inputs.a.width) → IsUnitDraft new card w
+shown_unit card s w inputs d new y is one select value shows =
+    subst (IsUnitDraft new card) (ap (λ (i : Inputs). i.a.width) is) (shows card one (ap (λ (i : Inputs). i.sel.width) is ∙ select) value)

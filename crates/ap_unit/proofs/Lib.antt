@@ -4,3 +4,4 @@ pub mod Names
 pub mod Laws
 pub mod Walked
 pub mod PlainNames
+pub mod Reversed

@@ -16,7 +16,7 @@ use Rattle.ap_net.proofs.Laws.{Adds-trans, net-Adds, ports_among-shown}
 use Rattle.ap_unit.specs.Cards.{operation_value}
 use Rattle.ap_unit.specs.Units.{Computes, Behaves, ports_by}
 use Rattle.ap_unit.specs.Built.{IsUnitDraft}
-use Rattle.ap_unit.specs.Pieces.{with_inputs, input_net, output_net, HasValue}
+use Rattle.ap_unit.specs.Pieces.{with_inputs, input_wires, input_net, output_net, HasValue}
 use Rattle.ap_unit.specs.Named.{NamesPlainly}
 use Rattle.ap_unit.proofs.PlainNames.{named_plainly}
 use Rattle.ap_unit.proofs.Placed.{place_is}
@@ -37,7 +37,7 @@ inputs_below name s w (suc (suc (suc n))) net at is = cc
 module _ (old new : Draft) (s w : ℕ) (y shown : Wire)
     (made : Makes (with_inputs old.name s w) old) (nets : new.nets ≡ old.nets ++ output_net (codes "y") w ∷ []) (adds : Adds old new) (closes : Closes old new) (same : new.instances ≡ old.instances)
     (there : slice_get new.nets shown.number ≡ Some (output_net (codes "y") w))
-    (equation : (read : ℕ → ℕ) → SettlesDraft new read → SettlesDraft old read × (read shown.number ≡ read y.number)) (wide : y.width ≡ w) where
+    (equation : (read : ℕ → ℕ) → SettlesDraft new read → SettlesDraft old read × (read shown.number ≡ read y.number)) where
   all_driven : IsDriven new.nets new.assigns new.nexts new.instances
   all_driven = record {
     driven = closes.driven (made.closes.driven (inputs_driven old.name s w));
@@ -50,7 +50,7 @@ module _ (old new : Draft) (s w : ℕ) (y shown : Wire)
   begins : Adds (with_inputs old.name s w) new
   begins = Adds-trans _ _ _ made.adds adds
 
-  computes : (card : Card) → HasValue old y card → (m : ModuleText) → IsModule m → IsFinished new m → Computes m card w
+  computes : (card : Card) → HasValue old (input_wires s w) y card → (m : ModuleText) → IsModule m → IsFinished new m → Computes m card w
   computes card value m rules f read settled lt =
       let ports : m.ports ≡ ports_by One s w = f.ports ∙ its_ports in
       let back = equation (λ n. read (f.place n)) (f.settles read settled) in
@@ -59,10 +59,10 @@ module _ (old new : Draft) (s w : ℕ) (y shown : Wire)
       let a : f.place 1 ≡ 1 = place_is new m f rules 1 1 (input_net (codes "a") w) _ (net-Adds _ _ 1 _ begins refl) (at 1) refl in
       let b : f.place 2 ≡ 2 = place_is new m f rules 2 2 (input_net (codes "b") w) _ (net-Adds _ _ 2 _ begins refl) (at 2) refl in
       let result : f.place shown.number ≡ 3 = place_is new m f rules shown.number 3 (output_net (codes "y") w) _ there (at 3) refl in
-      ap read (sym result) ∙ back.1 ∙ value (λ n. read (f.place n)) back.0 (rw sel lt) ∙ (λ i. operation_value card (wide i) (read (sel i)) (read (a i)) (read (b i)))
+      ap read (sym result) ∙ back.1 ∙ value (λ n. read (f.place n)) back.0 (rw sel lt) ∙ (λ i. operation_value card w (read (sel i)) (read (a i)) (read (b i)))
 
   -- what was made is a unit of each card with this value
-  pub unit_of : (card : Card) → card.latency ≡ One → s ≡ select_width card → HasValue old y card → IsUnitDraft new card w
+  pub unit_of : (card : Card) → card.latency ≡ One → s ≡ select_width card → HasValue old (input_wires s w) y card → IsUnitDraft new card w
   unit_of card one select value = record {
     driven = all_driven;
     port = rw its_ports (omega arith);

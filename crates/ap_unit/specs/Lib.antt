@@ -9,3 +9,4 @@ pub mod Shelves
 pub mod Faults
 pub mod Rows
 pub mod Named
+pub mod Example

@@ -5,6 +5,7 @@ use Rattle.ap_net.specs.declared.cell.Wire.{Wire}
 use Rattle.ap_net.specs.declared.net.Role.TheVariants as role
 use Rattle.ap_net.specs.declared.net.ModuleNet.{ModuleNet}
 use Rattle.ap_net.specs.Draft.{Draft, SettlesDraft}
+use Rattle.ap_unit.specs.declared.pieces.Inputs.{Inputs}
 use Rattle.ap_unit.specs.Cards.{operation_value}
 
 abbrev pub input_net : List ℕ → ℕ → ModuleNet
@@ -17,7 +18,11 @@ output_net name width = record { name = name; width = width; role = role.Output 
 abbrev pub with_inputs : List ℕ → ℕ → ℕ → Draft
 with_inputs name s w = record { name = name; nets = input_net (codes "sel") s ∷ input_net (codes "a") w ∷ input_net (codes "b") w ∷ []; assigns = []; nexts = []; instances = [] }
 
--- In every solution the net has the value of the operation that sel chooses. In a draft that began with the inputs these are
--- the nets 0, 1 and 2.
-abbrev pub HasValue : Draft → Wire → Card → Type 0
-HasValue d y card = (read : ℕ → ℕ) → SettlesDraft d read → read 0 < length card.ops → read y.number ≡ operation_value card y.width (read 0) (read 1) (read 2)
+-- the wires of these inputs
+abbrev pub input_wires : ℕ → ℕ → Inputs
+input_wires s w = record { sel = record { number = 0; width = s }; a = record { number = 1; width = w }; b = record { number = 2; width = w } }
+
+-- in every solution the net has the value of the operation that sel chooses, for the operands a and b
+abbrev pub HasValue : Draft → Inputs → Wire → Card → Type 0
+HasValue d inputs y card = (read : ℕ → ℕ) → SettlesDraft d read → read inputs.sel.number < length card.ops
+    → read y.number ≡ operation_value card inputs.a.width (read inputs.sel.number) (read inputs.a.number) (read inputs.b.number)

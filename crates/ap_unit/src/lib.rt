@@ -17,4 +17,6 @@ pub use pieces::{Inputs, declare_inputs, show_result};
 pub use shelf::{Shelf, ShelfFault};
 
 #[cfg(test)]
+mod example;
+#[cfg(test)]
 mod rows;

@@ -6,7 +6,7 @@ ghost use Rattle.ap_net.specs.Cells.{IsNet};
 ghost use Rattle.ap_net.specs.Draft.{CanFresh, Makes};
 ghost use Rattle.ap_unit.specs.Built.{IsBlank, IsUnitDraft};
 ghost use Rattle.ap_unit.specs.Named.{NamesPlainly};
-ghost use Rattle.ap_unit.specs.Pieces.{with_inputs, HasValue};
+ghost use Rattle.ap_unit.specs.Pieces.{with_inputs, input_wires, HasValue};
 
 use ap_bits::NoMemory;
 use ap_net::builder::Builder;
@@ -31,7 +31,7 @@ pub fn declare_inputs(out: &mut Builder, select: u32, w: u32) -> Result<Inputs, 
     requires low { 1 ≤ w }
     requires high { w ≤ 64 }
     ensures ok { OnOk result (out.new ≡ with_inputs out.old.name select w) }
-    ensures inputs { IfOk result (λ i. i ≡ record { sel = record { number = 0; width = select }; a = record { number = 1; width = w }; b = record { number = 2; width = w } }) }
+    ensures inputs { IfOk result (λ i. i ≡ input_wires select w) }
     ensures nets { IfOk result (λ i. IsNet out.new.nets i.sel × IsNet out.new.nets i.a × IsNet out.new.nets i.b) }
     ensures fresh { OnOk result (CanFresh out.new) }
 {
@@ -44,6 +44,7 @@ pub fn declare_inputs(out: &mut Builder, select: u32, w: u32) -> Result<Inputs, 
 /// Shows a net as the output `y`. Where the builder holds the declared inputs and fresh wires over them, and the net has
 /// the value of the operation that `sel` chooses, what it holds afterwards is a unit, whose wires are named `n` and digits.
 pub fn show_result(out: &mut Builder, inputs: Inputs, y: Wire) -> Result<(), NoMemory>
+    requires inputs { inputs ≡ input_wires inputs.sel.width inputs.a.width }
     requires made { Makes (with_inputs out.old.name inputs.sel.width inputs.a.width) out.old }
     requires net { IsNet out.old.nets y }
     requires same { y.width ≡ inputs.a.width }
@@ -51,7 +52,7 @@ pub fn show_result(out: &mut Builder, inputs: Inputs, y: Wire) -> Result<(), NoM
     requires high { y.width ≤ 64 }
     ensures name { OnOk result (out.new.name ≡ out.old.name) }
     ensures names { OnOk result (NamesPlainly out.new) }
-    ensures unit { OnOk result ((card : Card) → card.latency ≡ One → inputs.sel.width ≡ select_width card → HasValue out.old y card → IsUnitDraft out.new card y.width) }
+    ensures unit { OnOk result ((card : Card) → card.latency ≡ One → inputs.sel.width ≡ select_width card → HasValue out.old inputs y card → IsUnitDraft out.new card inputs.a.width) }
 {
     out.show(b"y", y.width, Cell::Copy(y))?;
     Ok(())

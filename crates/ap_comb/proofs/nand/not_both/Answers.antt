@@ -1,5 +1,5 @@
-use Rattle.std.proofs.Common.{◌∙◌, refl}
-use Rattle.ap_net.proofs.Laws.{Makes-trans}
+use Rattle.std.proofs.Common.{◌∙◌, refl, rules}
+use Rattle.ap_net.proofs.Laws.{Makes-trans, laws}
 use Rattle.ap_comb.proofs.nand.not_both.Goals as goal
 
 pub returns-clause-value : goal.returns-clause-value
@@ -11,3 +11,9 @@ returns-clause-value c = λ read s.
 
 pub returns-clause-makes : goal.returns-clause-makes
 returns-clause-makes c = Makes-trans _ _ _ c.in_ok-both.ensures.makes (Makes-trans _ _ _ c.in_ok-ones.ensures.makes c.in_ok-others.ensures.makes)
+
+pub make-requires-3-clause-fits : goal.make-requires-3-clause-fits
+make-requires-3-clause-fits c =
+    let both = c.in_ok-both.ensures in
+    let ones = c.in_ok-ones.ensures in
+    search (rules, laws)
