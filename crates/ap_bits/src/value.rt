@@ -29,8 +29,9 @@ pub fn eval(t: &Term, w: u32, a: u64, b: u64) -> u64
     }
 }
 
-/// The value of an operation on one value.
-fn unary(op: UnOp, w: u32, a: u64) -> u64
+/// The value of an operation on one value at `w` bits, from 1 to 64. The operand is below 2^w, as the value is. It takes no
+/// memory.
+pub fn unary(op: UnOp, w: u32, a: u64) -> u64
     requires low { 1 ≤ w }
     requires high { w ≤ 64 }
     requires a { a < 2 ^ w }
@@ -44,8 +45,9 @@ fn unary(op: UnOp, w: u32, a: u64) -> u64
     }
 }
 
-/// The value of an operation on two values.
-fn binary(op: BinOp, w: u32, a: u64, b: u64) -> u64
+/// The value of an operation on two values at `w` bits, from 1 to 64. The operands are below 2^w, as the value is. It takes
+/// no memory.
+pub fn binary(op: BinOp, w: u32, a: u64, b: u64) -> u64
     requires low { 1 ≤ w }
     requires high { w ≤ 64 }
     requires a { a < 2 ^ w }

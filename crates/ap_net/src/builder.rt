@@ -60,6 +60,11 @@ impl Builder {
             wires: 0,
         })
     }
+
+    /// The allocator from which the builder has its memory, for pieces of circuit that need some of their own.
+    pub fn allocator(&self) -> Global {
+        self.alloc
+    }
 }
 
 /// The nets in a list.

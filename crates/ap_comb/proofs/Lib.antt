@@ -1,0 +1,11 @@
+pub mod Cuts
+pub mod MovedTwice
+pub mod LevelSteps
+pub mod BitCounts
+pub mod Runs
+pub mod Shifted
+pub mod KindValues
+pub mod Halves
+pub mod NandValues
+pub mod Signs
+pub mod AluResults

@@ -1,0 +1,21 @@
+use Rattle.std.proofs.Common.{◌∙◌, ◌≤◌, ◌==◌, arith, rules}
+use Rattle.ap_net.proofs.Laws.{Makes-trans, laws}
+use Rattle.ap_comb.proofs.MovedTwice.{right_parts}
+use Rattle.ap_comb.proofs.levels.move_right.Goals as goal
+
+pub returns-clause-value : goal.returns-clause-value
+returns-clause-value c = λ read s.
+    let moved = c.in_ok-moved.ensures.value read s in
+    let kept = c.in_ok-kept.ensures.value read moved.0 in
+    let above = c.in_ok-above.ensures.value read kept.0 in
+    let within : c.args.places ≤ c.args.x.width = omega arith in
+    (above.0, moved.1 ∙ rw (kept.1, above.1, c.in_ok-kept.ensures.net.1) (right_parts (read c.args.fill.number == 1) c.args.x.width (read c.args.x.number) c.args.places within))
+
+pub returns-clause-makes : goal.returns-clause-makes
+returns-clause-makes c = Makes-trans _ _ _ c.in_ok-above.ensures.makes (Makes-trans _ _ _ c.in_ok-kept.ensures.makes c.in_ok-moved.ensures.makes)
+
+pub upper_bits-requires-clause-x : goal.upper_bits-requires-clause-x
+upper_bits-requires-clause-x c = let above' = c.in_ok-above.ensures in search (rules, laws)
+
+pub make-requires-clause-fits : goal.make-requires-clause-fits
+make-requires-clause-fits c = let above' = c.in_ok-above.ensures in let kept' = c.in_ok-kept.ensures in search (rules, laws)

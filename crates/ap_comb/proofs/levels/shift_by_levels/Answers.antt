@@ -1,0 +1,63 @@
+use Rattle.std.proofs.Common.{◌≡◌, ◌+◌, ◌%◌, ◌^◌, ◌<◌, ◌≤◌, refl, sym, ap, ◌∙◌, arith, rules}
+use Rattle.std.proofs.Math.Nat.{mod-one}
+use Rattle.std.proofs.lemmas.Nat.{pow_pos}
+use Rattle.ap_net.proofs.Laws.{Makes-refl, Makes-trans, laws}
+use Rattle.ap_comb.specs.Moves.{moved}
+use Rattle.ap_comb.proofs.MovedTwice.{moved_none}
+use Rattle.ap_comb.proofs.LevelSteps.{level_more, level_within, levels_few, level_places}
+use Rattle.ap_comb.proofs.levels.shift_by_levels.Goals as goal
+
+pub overflow_shl-i : goal.overflow_shl-i
+overflow_shl-i c = omega (arith, levels_few c.args.x.width c.args.count c.requires.width c.requires.high)
+
+pub level-requires-clause-some : goal.level-requires-clause-some
+level-requires-clause-some c =
+    let below : c.loop-i.i < c.args.count = omega arith in
+    rw (level_places c.loop-i.i c.args.count c.args.x.width below c.requires.width c.requires.high) (pow_pos c.loop-i.i)
+
+pub level-requires-clause-within : goal.level-requires-clause-within
+level-requires-clause-within c =
+    let below : c.loop-i.i < c.args.count = omega arith in
+    rw (level_places c.loop-i.i c.args.count c.args.x.width below c.requires.width c.requires.high) (omega (arith, level_within c.loop-i.i c.args.count below, pow_pos c.loop-i.i, c.loop-i.invariant.width, c.requires.width))
+
+pub loop-i-init : goal.loop-i-init
+loop-i-init c = record {
+  net = c.requires.x;
+  width = refl;
+  value = λ read s. (s, sym (ap (moved read c.args.way c.args.x.width (read c.args.x.number)) (mod-one (read c.args.by.number)) ∙ moved_none read c.args.way c.args.x.width (read c.args.x.number) (s.fits _ _ c.requires.x.declared)));
+  makes = Makes-refl _;
+}
+
+pub loop-i-preserved : goal.loop-i-preserved
+loop-i-preserved c =
+    let before = c.loop-i.invariant in
+    let below : c.loop-i.i < c.args.count = omega arith in
+    let within : 2 ^ c.loop-i.i + 2 ^ c.loop-i.i ≤ c.args.x.width = omega (arith, level_within c.loop-i.i c.args.count below, c.requires.width) in
+    record {
+      net = c.in_ok-shifted.ensures.net.0;
+      width = c.in_ok-shifted.ensures.net.1 ∙ before.width;
+      value = λ read s.
+          let level = c.in_ok-shifted.ensures.value read s in
+          let by = c.in_ok-by.ensures.value read level.0 in
+          let old = before.value read by.0 in (
+            old.0,
+            level.1 ∙ rw (by.1, level_places c.loop-i.i c.args.count c.args.x.width below c.requires.width c.requires.high, before.width, old.1)
+                (level_more read c.args.way c.args.x.width (read c.args.x.number) (read c.args.by.number) c.loop-i.i (old.0.fits _ _ c.requires.x.declared) within),
+          );
+      makes = Makes-trans _ _ _ before.makes (Makes-trans _ _ _ c.in_ok-by.ensures.makes c.in_ok-shifted.ensures.makes);
+    }
+
+pub returns-clause-value : goal.returns-clause-value
+returns-clause-value c = λ read s.
+    let last = c.loop-i.invariant.value read s in
+    let all : c.loop-i.i ≡ c.args.count = omega arith in
+    (last.0, last.1 ∙ ap (λ n. moved read c.args.way c.args.x.width (read c.args.x.number) (read c.args.by.number % 2 ^ n)) all)
+
+pub bit-requires-clause-x : goal.bit-requires-clause-x
+bit-requires-clause-x c = let h = c.loop-i.invariant in search (rules, laws)
+
+pub level-requires-clause-x : goal.level-requires-clause-x
+level-requires-clause-x c = let h = c.loop-i.invariant in let by' = c.in_ok-by.ensures in search (rules, laws)
+
+pub level-requires-clause-way : goal.level-requires-clause-way
+level-requires-clause-way c = let h = c.loop-i.invariant in let by' = c.in_ok-by.ensures in search (rules, laws)

@@ -1,0 +1,13 @@
+use Rattle.std.proofs.Common.{refl}
+use Rattle.std.proofs.lemmas.Result.{on_ok_weaker}
+use Rattle.ap_unit.proofs.Laws.{shown_unit}
+use Rattle.ap_comb.specs.Shifts.{shift_card}
+use Rattle.ap_comb.proofs.KindValues.{shift_has_value}
+use Rattle.ap_comb.proofs.shift.ShiftUnitKind.build.Goals as goal
+
+pub returns-clause-unit : goal.returns-clause-unit
+returns-clause-unit c =
+    let inputs = c.in_ok-inputs.inputs in
+    let is = c.in_ok-inputs.ensures.inputs in
+    let value = shift_has_value c.shifted.new.out inputs c.in_ok-y.y (λ read s. (c.in_ok-y.ensures.value read s).1) in
+    on_ok_weaker c.show_result.result (shown_unit shift_card 2 c.args.w inputs c.shifted.new.out c.show_result.new.out c.in_ok-y.y is refl refl value) c.show_result.ensures.unit

@@ -1,0 +1,7 @@
+pub mod Placed
+pub mod Single
+pub mod Names
+pub mod Laws
+pub mod Walked
+pub mod PlainNames
+pub mod Reversed

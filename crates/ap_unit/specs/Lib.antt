@@ -1,0 +1,12 @@
+pub mod Cards
+pub mod Ages
+pub mod Depends
+pub mod Units
+pub mod Built
+pub mod Pieces
+pub mod Kinds
+pub mod Shelves
+pub mod Faults
+pub mod Rows
+pub mod Named
+pub mod Example

@@ -1,0 +1,22 @@
+//! Kinds of units: what a unit of a card is, the trait of kinds, and the shelf that holds them by name.
+//!
+//! A kind has a card, which says what each of its operations computes and how many cycles it takes. It builds the module of
+//! a unit for each width of the card, and what such a module is stands in `specs/Units.antt`. Who uses a unit knows it by
+//! its card alone. A unit that takes one cycle is built of [`declare_inputs`], pieces of circuit over the inputs, and
+//! [`show_result`].
+#![tactic(auto)]
+
+pub mod dependence;
+pub mod kind;
+pub mod pieces;
+pub mod shelf;
+
+pub use dependence::walks_miss_them;
+pub use kind::UnitKind;
+pub use pieces::{Inputs, declare_inputs, show_result};
+pub use shelf::{Shelf, ShelfFault};
+
+#[cfg(test)]
+mod example;
+#[cfg(test)]
+mod rows;
