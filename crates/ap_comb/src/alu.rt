@@ -262,7 +262,7 @@ impl UnitKind for Alu {
     }
 
     fn op_count(&self) -> u32 {
-        9
+        OPERATIONS.len() as u32
     }
 
     fn op_name(&self, i: u32) -> &str {
@@ -270,7 +270,7 @@ impl UnitKind for Alu {
     }
 
     fn fits(&self, w: u32) -> bool {
-        1 <= w && w <= 64
+        (1..=64).contains(&w)
     }
 
     fn latency(&self, _: u32) -> u32 {

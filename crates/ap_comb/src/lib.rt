@@ -20,6 +20,8 @@ pub use count::Count;
 pub use shift::Shift;
 
 #[cfg(test)]
+mod alu_tests;
+#[cfg(test)]
 mod evaluate;
 #[cfg(test)]
 mod kind_tests;

@@ -1,5 +1,5 @@
 -- What those who write kinds need: a test that tells that a card keeps the rules of cards. On a card that is written out it computes.
-use Rattle.std.proofs.Common.{◌≡◌, ◌≢◌, ℕ, ◌&&◌, Bool, true, false, List, [], ◌∷◌, length, refl}
+use Rattle.std.proofs.Common.{◌≡◌, ◌≢◌, ℕ, ◌&&◌, Bool, true, List, [], ◌∷◌, length}
 use Rattle.std.specs.Prelude.{nat_le, not, IsTrue}
 use Rattle.std.specs.List.{AllByRecursion as Each, list_all}
 use Rattle.std.specs.Str.{bytes_eq}

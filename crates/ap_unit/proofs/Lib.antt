@@ -2,3 +2,4 @@ pub mod Placed
 pub mod Single
 pub mod Names
 pub mod Laws
+pub mod Walked

@@ -4,7 +4,7 @@ use Rattle.std.specs.Prelude.{slice_get, IsTrue, ◌↔◌, Contains, IsSomeAnd,
 use Rattle.std.specs.List.{AllByRecursion as Each, position_from}
 use Rattle.std.specs.Str.{bytes_eq}
 use Rattle.std.proofs.lemmas.Slice.Eq.{bytes_eq-Decides}
-use Rattle.std.proofs.lemmas.List.{length-map, take-map}
+use Rattle.std.proofs.lemmas.List.{take-map}
 use Rattle.std.proofs.lemmas.Option.{slice_get_read, slice_get-map}
 use Rattle.ap_bits.specs.declared.card.Card.{Card}
 use Rattle.ap_net.specs.Names.{AreDistinct}

@@ -1,6 +1,6 @@
 -- From a draft to the module that is made of it.
-use Rattle.std.proofs.Common.{◌≡◌, ◌≢◌, ℕ, ◌<◌, suc, zero, List, [], ◌∷◌, map, length, Some, refl, sym, ap, ◌∙◌, arith}
-use Rattle.std.specs.Prelude.{slice_get, option_map, codes}
+use Rattle.std.proofs.Common.{◌≡◌, ◌≢◌, ℕ, ◌<◌, suc, zero, List, [], ◌∷◌, map, length, Some, refl, sym, ap, ◌∙◌}
+use Rattle.std.specs.Prelude.{slice_get, option_map}
 use Rattle.std.specs.List.{AllByRecursion as Each}
 use Rattle.std.proofs.lemmas.List.{length-map}
 use Rattle.std.proofs.lemmas.Option.{slice_get_within, slice_get-map}
@@ -10,7 +10,7 @@ use Rattle.ap_net.specs.declared.net.FlatNet.{FlatNet}
 use Rattle.ap_net.specs.declared.net.Assign.{Assign}
 use Rattle.ap_net.specs.Names.{AreDistinct}
 use Rattle.ap_net.specs.Cells.{cell_value, widths_of}
-use Rattle.ap_net.specs.Wiring.{Settles, Holds, taken_names}
+use Rattle.ap_net.specs.Wiring.{Settles, Holds}
 use Rattle.ap_net.specs.Draft.{Draft, SettlesDraft}
 use Rattle.ap_net.specs.Modules.{ModuleText, IsModule, nets_of, cell_placed, assign_placed}
 use Rattle.ap_net.specs.Finished.{IsFinished}

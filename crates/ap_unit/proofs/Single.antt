@@ -1,21 +1,20 @@
 -- A draft of inputs, fresh wires and the output y is a unit that takes one cycle.
-use Rattle.std.proofs.Common.{◌≡◌, ℕ, ◌<◌, suc, zero, List, [], ◌∷◌, ◌++◌, length, Some, true, refl, sym, ap, subst, ◌∙◌, arith}
+use Rattle.std.proofs.Common.{◌≡◌, ℕ, suc, zero, List, [], ◌∷◌, ◌++◌, Some, true, refl, sym, ap, subst, ◌∙◌, arith}
 use Rattle.std.specs.Prelude.{slice_get, codes}
 use Rattle.ap_bits.specs.declared.card.Card.{Card}
-use Rattle.ap_bits.specs.declared.card.Latency.{Latency}
 use Rattle.ap_bits.specs.declared.card.Latency.TheVariants.{One}
 use Rattle.ap_bits.specs.Cards.{select_width}
 use Rattle.ap_net.specs.declared.cell.Wire.{Wire}
 use Rattle.ap_net.specs.declared.net.Role.TheVariants as role
 use Rattle.ap_net.specs.declared.net.FlatNet.{FlatNet}
 use Rattle.ap_net.specs.declared.net.Port.{Port}
-use Rattle.ap_net.specs.Wiring.{IsSource, IsDriven, Undriven, Settles, reset_of}
+use Rattle.ap_net.specs.Wiring.{IsDriven, reset_of}
 use Rattle.ap_net.specs.Draft.{Draft, Adds, Closes, Makes, SettlesDraft, AreDriven, RegistersBelow}
 use Rattle.ap_net.specs.Modules.{ModuleText, IsModule, nets_of, nets_among, ports_among}
 use Rattle.ap_net.specs.Finished.{IsFinished}
 use Rattle.ap_net.proofs.Laws.{Adds-trans, net-Adds, ports_among-shown}
 use Rattle.ap_unit.specs.Cards.{operation_value}
-use Rattle.ap_unit.specs.Units.{IsUnit, Computes, Behaves, ports_by}
+use Rattle.ap_unit.specs.Units.{Computes, Behaves, ports_by}
 use Rattle.ap_unit.specs.Built.{IsUnitDraft}
 use Rattle.ap_unit.specs.Pieces.{with_inputs, input_net, output_net, HasValue}
 use Rattle.ap_unit.proofs.Placed.{settles_back, place_is}

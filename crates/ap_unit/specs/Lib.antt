@@ -7,3 +7,4 @@ pub mod Pieces
 pub mod Kinds
 pub mod Shelves
 pub mod Faults
+pub mod Rows

@@ -6,10 +6,15 @@
 //! [`show_result`].
 #![tactic(auto)]
 
+pub mod dependence;
 pub mod kind;
 pub mod pieces;
 pub mod shelf;
 
+pub use dependence::walks_miss_them;
 pub use kind::UnitKind;
 pub use pieces::{Inputs, declare_inputs, show_result};
 pub use shelf::{Shelf, ShelfFault};
+
+#[cfg(test)]
+mod rows;

@@ -1,4 +1,3 @@
-use Rattle.std.proofs.Common.{◌<◌, length}
 use Rattle.std.proofs.lemmas.List.{length-map}
 use Rattle.ap_unit.proofs.Names.{AreDistinct-none, within}
 use Rattle.ap_unit.proofs.shelf.Shelf.new.Goals as goal
