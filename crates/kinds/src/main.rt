@@ -4,8 +4,8 @@
 
 ghost use Rattle.ap_bits.specs.Cards.{FitsWidth};
 
-use ap_comb::{Alu, Avg, Count, Shift};
 use ap_bits::NoMemory;
+use ap_comb::{Alu, Avg, Count, Shift};
 use ap_net::builder::Builder;
 use ap_net::module::Netlist;
 use ap_net::write::write;
