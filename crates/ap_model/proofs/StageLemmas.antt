@@ -302,7 +302,7 @@ reached_none sight stage start i locals m reached at on none =
     let unassigned : width m ≡ None = none_assigned sight (arg_value sight locals) m.line m.act none in
     let counts = more ∙ ap (λ o. counted width (within stage (take i sight.instr.micros)) + length (cons_option o [])) unassigned in
     let step : locals_after sight locals (m ∷ rest) ≡ locals_after sight locals rest =
-      ap (λ o. locals_after sight (locals ++ option_to_list o) rest) none ∙ ap (λ xs. locals_after sight xs rest) (append-nil locals) in
+    ap (λ o. locals_after sight (locals ++ option_to_list o) rest) none ∙ ap (λ xs. locals_after sight xs rest) (append-nil locals) in
     record {
       same = sym step ∙ ap (locals_after sight locals) (sym lines) ∙ reached.same;
       fit = reached.fit;
@@ -323,7 +323,7 @@ reached_some sight stage start i locals m v good reached at on some fits =
     let step : locals_after sight locals (m ∷ rest) ≡ locals_after sight (locals ++ v ∷ []) rest = ap (λ o. locals_after sight (locals ++ option_to_list o) rest) some in
     let so_far : counted width (take i micros) ≡ length locals = sym (counted_to width stage micros i m good.order at (eqb-true m.stage stage on)) ∙ sym reached.count in
     let place : slice_get sight.instr.locals (length locals) ≡ Some (width_of_act sight m.act) =
-      ap (λ ws. slice_get ws (length locals)) good.right.locals ∙ ap (slice_get (filter_map width micros)) (sym so_far) ∙ at_place width micros i m (width_of_act sight m.act) at assigned in
+    ap (λ ws. slice_get ws (length locals)) good.right.locals ∙ ap (slice_get (filter_map width micros)) (sym so_far) ∙ at_place width micros i m (width_of_act sight m.act) at assigned in
     let limit : width_at (λ w. w) sight.instr.locals (length locals) ≡ width_of_act sight m.act = ap (λ o. option_map_or (λ w. w) o 0) place in
     record {
       same = sym step ∙ ap (locals_after sight locals) (sym lines) ∙ reached.same;
@@ -338,6 +338,7 @@ reached_line sight stage start i locals m good reached at fits = go (m.stage == 
     by_value : (m.stage == stage) ≡ true → (o : Option ℕ) → act_value sight (arg_value sight locals) m.line m.act ≡ o → IfSome o (λ v. v < 2 ^ width_of_act sight m.act) → IsReached sight stage start (i + 1) (locals ++ option_to_list o)
     by_value on None e h = subst (IsReached sight stage start (i + 1)) (sym (append-nil locals)) (reached_none sight stage start i locals m reached at on e)
     by_value on (Some v) e h = reached_some sight stage start i locals m v good reached at on e h
+
     go : (b : Bool) → (m.stage == stage) ≡ b → IsReached sight stage start (i + 1) (if b then locals ++ option_to_list (act_value sight (arg_value sight locals) m.line m.act) else locals)
     go true on = by_value on (act_value sight (arg_value sight locals) m.line m.act) refl fits
     go false off = reached_skip sight stage start i locals m reached at off
@@ -355,15 +356,18 @@ reached_all sight stage start locals reached =
     let width = assigned_width sight.design sight.instr in
     let micros = sight.instr.micros in
     let none : drop (length micros) micros ≡ [] = drop_all micros in
-    let all : take (length micros) micros ≡ micros = take_all_of micros in
-    (ap (λ ms. locals_after sight locals (within stage ms)) (sym none) ∙ reached.same, record {
-      fit = reached.fit;
-      count = reached.count ∙ ap (λ ms. counted width (before stage micros) + counted width (within stage ms)) all ∙ counted_next width stage micros;
-    })
+    let all : take (length micros) micros ≡ micros = take_all_of micros in (
+      ap (λ ms. locals_after sight locals (within stage ms)) (sym none) ∙ reached.same,
+      record {
+        fit = reached.fit;
+        count = reached.count ∙ ap (λ ms. counted width (before stage micros) + counted width (within stage ms)) all ∙ counted_next width stage micros;
+      },
+    )
   where
     drop_all : (xs : List Micro) → drop (length xs) xs ≡ []
     drop_all [] = refl
     drop_all (x ∷ xs) = drop_all xs
+
     take_all_of : (xs : List Micro) → take (length xs) xs ≡ xs
     take_all_of [] = refl
     take_all_of (x ∷ xs) = ap (λ rest. x ∷ rest) (take_all_of xs)
