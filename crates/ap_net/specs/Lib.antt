@@ -8,6 +8,7 @@ pub mod Places
 pub mod Placing
 pub mod Flat
 pub mod Finished
+pub mod Examples
 pub mod Outside
 pub mod Sources
 pub mod Runs

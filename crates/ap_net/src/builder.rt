@@ -1,4 +1,4 @@
-ghost use Rattle.std.specs.Prelude.{◌≡◌, ◌≢◌, ℕ, ◌+◌, ◌<◌, ◌≤◌, ◌∷◌, ◌++◌, [], List, length, map, codes, OnOk, OnErr, IfOk, ◌^◌, slice_get, Some, if◌then◌else◌};
+ghost use Rattle.std.specs.Prelude.{◌≡◌, ℕ, ◌+◌, ◌<◌, ◌≤◌, ◌∷◌, ◌++◌, [], List, length, map, codes, OnOk, OnErr, IfOk, ◌^◌, slice_get, Some, if◌then◌else◌};
 ghost use Rattle.std.specs.List.{AllByRecursion as Each};
 ghost use Rattle.ap_net.specs.Names.{IsNetName, IsNew, IsNotNumbered, numbered};
 ghost use Rattle.ap_net.specs.Cells.{IsNet, CellFits, cell_value};
@@ -131,7 +131,6 @@ impl Builder {
         ensures ok { OnOk result (self.new ≡ record self.old { nets = self.old.nets ++ record { name = name; width = width; role = role } ∷ [] }) }
         ensures wire { IfOk result (λ w. w ≡ record { number = length self.old.nets; width = width }) }
         ensures adds { OnOk result (Adds self.old self.new) }
-        ensures names { OnOk result ((other : List ℕ) → name ≢ other → IsNew other (names_of self.old) → IsNew other (names_of self.new)) }
         ensures named { OnOk result (IsNotNumbered name → CanFresh self.old → CanFresh self.new) }
         ensures numbered { OnOk result (name ≡ numbered (wire_count self.old.nets) → role ≡ Role.Plain → CanFresh self.old → CanFresh self.new) }
         ensures err { OnErr result (self.new ≡ self.old) }
@@ -169,7 +168,6 @@ impl Builder {
         ensures wire { IfOk result (λ w. w ≡ record { number = length self.old.nets; width = width }) }
         ensures adds { OnOk result (Adds self.old self.new) }
         ensures fresh { OnOk result (CanFresh self.old → CanFresh self.new) }
-        ensures names { OnOk result ((other : List ℕ) → IsNotNumbered other → IsNew other (names_of self.old) → IsNew other (names_of self.new)) }
         ensures err { OnErr result (self.new ≡ self.old) }
     {
         let name = NetName::numbered(self.alloc, self.wires)?;
@@ -387,7 +385,6 @@ impl Builder {
         ensures adds { OnOk result (Adds self.old self.new) }
         ensures closes { OnOk result (Closes self.old self.new) }
         ensures instances { OnOk result (self.new.instances ≡ self.old.instances) }
-        ensures names { OnOk result ((other : List ℕ) → name.now ≢ other → IsNew other (names_of self.old) → IsNew other (names_of self.new)) }
         ensures fresh { OnOk result (IsNotNumbered name.now → CanFresh self.old → CanFresh self.new) }
     {
         let _ = &self.nets;

@@ -1,5 +1,8 @@
 ghost use Rattle.std.specs.Prelude.{◌≡◌, ◌∷◌, ◌≤◌, [], codes, slice_index};
 ghost use Rattle.ap_net.specs.Cells.{CellFits, two_value, cell_value};
+ghost use Rattle.ap_net.specs.Examples.{inverter, over_inverter, inverter_opened, inverter_text};
+ghost use Rattle.ap_net.specs.Flat.{opened, value_in, register_in, reset_in};
+ghost use Rattle.ap_net.specs.Text.{netlist_text};
 
 use crate::NoMemory;
 use crate::builder::Builder;
@@ -61,8 +64,8 @@ fn writes_a_counter(rt: HostRuntime) -> Result<(), Fail> {
     let enable = b.output(b"w_R_e", 1)?;
     let value = b.output(b"w_R_v", 8)?;
     let pc = b.register(b"pc", 4, 0)?;
-    let one = b.fresh(4)?;
-    let after = b.fresh(4)?;
+    let one = b.wire(b"n0", 4)?;
+    let after = b.wire(b"n1", 4)?;
     b.cell(one, Cell::Const(1))?;
     b.cell(after, Cell::Two(TwoOp::Add, pc, one))?;
     b.cell(iaddr, Cell::Copy(pc))?;
@@ -187,6 +190,19 @@ fn writes_each_cell(rt: HostRuntime) -> Result<(), Fail> {
     expect_right(&rt, alloc, 1, Cell::Slice(B, 7, 7), "b[7:7]")?;
     Ok(())
 }
+
+/// A netlist with an instance, opened: the instance's nets follow those of `top`, and its ports are joined to their nets.
+fn opens_an_instance()
+    ensures opened { opened (inverter ∷ over_inverter ∷ []) ≡ inverter_opened }
+    ensures input { value_in 1 inverter_opened.nets (5 ∷ 250 ∷ 250 ∷ 5 ∷ 250 ∷ 2 ∷ []) (codes "a") ≡ 5 }
+    ensures register { register_in 1 inverter_opened (2 ∷ []) (codes "q") ≡ 2 }
+    ensures reset { reset_in inverter_opened 5 ≡ 2 }
+{}
+
+/// Its one spelling, an instance line included.
+fn spells_an_instance()
+    ensures { netlist_text (inverter ∷ over_inverter ∷ []) ≡ inverter_text }
+{}
 
 /// Worked values of the operators, which the check computes: one bit.
 fn values_of_one_bit()

@@ -161,7 +161,21 @@ base_fresh form = record {
   free = λ k low high.
       let other : (name : List ℕ) → IsTrue (is_other_letter name) → name ≢ numbered k = λ name h e. IsNotNumbered-other name h k high e in (
         other (codes "clk") refl,
-        (other (codes "rst") refl, (other (codes "pc") refl, (other (codes "r_R") refl, (other (codes "v_1") refl, (other (codes "x_1") refl,
-        (other (codes "iaddr") refl, (other (codes "idata") refl, (other (codes "mwait") refl, (other (codes "stall") refl, (other (codes "kill") refl, tt)))))))))),
+        (
+          other (codes "rst") refl,
+          (
+            other (codes "pc") refl,
+            (
+              other (codes "r_R") refl,
+              (
+                other (codes "v_1") refl,
+                (
+                  other (codes "x_1") refl,
+                  (other (codes "iaddr") refl, (other (codes "idata") refl, (other (codes "mwait") refl, (other (codes "stall") refl, (other (codes "kill") refl, tt))))),
+                ),
+              ),
+            ),
+          ),
+        ),
       );
 }

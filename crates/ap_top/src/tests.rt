@@ -69,9 +69,20 @@ fn sure_text(alloc: Global, description: &[u8]) -> Result<Option<Vec<u8>>, Fail>
     }
 }
 
-/// The head of the module `top` for the first form with an address of 4 bits and words and a register of 8 bits.
-fn head_of_top() -> &'static str {
-    "module top (
+/// The module of the unit, and then the head of the module `top`, for the first form with an address of 4 bits and words and a
+/// register of 8 bits.
+fn unit_and_head_of_top() -> &'static str {
+    "module k_alu_8 (
+  input clk,
+  input rst,
+  input [3:0] sel,
+  input [7:0] a,
+  input [7:0] b,
+  output [7:0] y
+);
+  assign y = a + b;
+endmodule
+module top (
   input clk,
   input rst,
   output [3:0] iaddr,
@@ -88,7 +99,7 @@ fn head_of_top() -> &'static str {
 #[test]
 fn a_text_begins_with_its_ports(rt: HostRuntime) -> Result<(), Fail> {
     let text = sure_text(rt.alloc(), accumulator().as_bytes())?.ok_or("no text")?;
-    assert!(rt; text.starts_with(head_of_top().as_bytes()));
+    assert!(rt; text.starts_with(unit_and_head_of_top().as_bytes()));
     Ok(())
 }
 

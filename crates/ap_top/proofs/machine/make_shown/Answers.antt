@@ -5,7 +5,7 @@ use Rattle.ap_net.specs.Names.{IsNew}
 use Rattle.ap_net.specs.Draft.{SettlesOpen, names_of}
 use Rattle.ap_net.specs.Modules.{ports_among}
 use Rattle.ap_net.specs.Outside.{output}
-use Rattle.ap_net.proofs.Laws.{Adds-trans, Closes-trans, IsNet-Adds, IsNew-is_new, IsNotNumbered-other, net-Adds, ports_among-shown, SettlesOpen-before}
+use Rattle.ap_net.proofs.Laws.{Adds-trans, Closes-trans, IsNet-Adds, IsNew-is_new, IsNew-made, IsNotNumbered-other, net-Adds, ports_among-shown, SettlesOpen-before}
 use Rattle.ap_top.specs.declared.form.Form.{Form}
 use Rattle.ap_top.specs.Base.{base}
 use Rattle.ap_top.proofs.machine.make_shown.Goals as goal
@@ -29,7 +29,7 @@ show-requires-clause-name c =
 pub show-requires-2-clause-name : goal.show-requires-2-clause-name
 show-requires-2-clause-name c =
     let circuit = c.in_ok-circuit.ensures in
-    c.in_ok-show.ensures.names (codes "w_R_v") apart (circuit.places.names (codes "w_R_v") (IsNotNumbered-other (codes "w_R_v") refl) ((λ e. unit_apart.1 (sym circuit.is_unit.0 ∙ e)), tt) (new_in_base c.args.form).1)
+    rw (c.in_ok-show.ensures.nets, c.in_ok-show.ensures.instances) (IsNew-made _ _ _ (codes "w_R_v") apart (circuit.places.names (codes "w_R_v") (IsNotNumbered-other (codes "w_R_v") refl) ((λ e. unit_apart.1 (sym circuit.is_unit.0 ∙ e)), tt) (new_in_base c.args.form).1))
 
 pub show-requires-2-clause-fits : goal.show-requires-2-clause-fits
 show-requires-2-clause-fits c = (IsNet-Adds _ _ _ c.in_ok-show.ensures.adds c.in_ok-circuit.ensures.sum.0, c.in_ok-circuit.ensures.sum.1)

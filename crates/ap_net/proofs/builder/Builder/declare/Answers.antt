@@ -1,6 +1,6 @@
 use Rattle.std.proofs.Common.{◌+◌, ◌<◌, ◌^◌, ap, sym, ◌∙◌, arith}
 use Rattle.ap_net.specs.Draft.{is_plain, wire_count}
-use Rattle.ap_net.proofs.Drafts.{Adds-declare, IsNew-made}
+use Rattle.ap_net.proofs.Drafts.{Adds-declare}
 use Rattle.ap_net.proofs.Wired.{IsWired-declare, wire_count-push}
 use Rattle.ap_net.proofs.Connected.{IsConnected-declare, CanFresh-declare, CanFresh-fresh, IsNew-taken}
 use Rattle.ap_net.proofs.builder.Builder.declare.Goals as goal
@@ -18,9 +18,6 @@ invariant_of-self-2 c =
 
 pub returns-clause-adds : goal.returns-clause-adds
 returns-clause-adds c = rw (c.in_ok-push.ensures.items, ← c.self.view_is) (Adds-declare _ _)
-
-pub returns-clause-names : goal.returns-clause-names
-returns-clause-names c = rw (c.in_ok-push.ensures.items, ← c.self.view_is) (λ other ne h. IsNew-made _ _ _ other ne h)
 
 pub returns-clause-named : goal.returns-clause-named
 returns-clause-named c = rw (c.in_ok-push.ensures.items, ← c.self.view_is) (CanFresh-declare _ _ _)

@@ -1,4 +1,4 @@
-use Rattle.std.proofs.Common.{◌≡◌, ◌∙◌, ap, sym, refl, arith}
+use Rattle.std.proofs.Common.{◌≡◌, ◌∙◌, ap, refl}
 use Rattle.std.proofs.lemmas.Result.{on_ok_weaker}
 use Rattle.ap_net.specs.Names.{numbered}
 use Rattle.ap_net.specs.Draft.{wire_count}
@@ -8,8 +8,3 @@ pub returns-clause-fresh : goal.returns-clause-fresh
 returns-clause-fresh c =
     let count : c.self.inside.wires ≡ wire_count c.args.self.now.nets = rw (← c.self.view_is) c.self.invariant.wires in
     on_ok_weaker c.declare.result (λ more. more (c.in_ok-name.ensures.same ∙ ap numbered count) refl) c.declare.ensures.numbered
-
-pub returns-clause-names : goal.returns-clause-names
-returns-clause-names c =
-    let count : c.self.inside.wires ≡ wire_count c.args.self.now.nets = rw (← c.self.view_is) c.self.invariant.wires in
-    on_ok_weaker c.declare.result (λ more other not_numbered h. more other (λ e. not_numbered c.self.inside.wires (omega arith) (sym e ∙ c.in_ok-name.ensures.same)) h) c.declare.ensures.names

@@ -3,7 +3,7 @@ use Rattle.ap_net.specs.Wiring.{IsWired, IsConnected}
 use Rattle.ap_net.proofs.Lists.{get_end}
 use Rattle.ap_net.proofs.Wired.{IsNet-end, CellFits-more, IsFree-end, Undriven-end}
 use Rattle.ap_net.proofs.Connected.{Unjoined-end}
-use Rattle.ap_net.proofs.Drafts.{Adds-made, Closes-made, Settles-made, IsNew-made}
+use Rattle.ap_net.proofs.Drafts.{Adds-made, Closes-made, Settles-made}
 use Rattle.ap_net.proofs.builder.Builder.show.Goals as goal
 
 pub cell-requires-clause-net : goal.cell-requires-clause-net
@@ -42,6 +42,3 @@ returns-clause-there c = rw (c.in_ok-cell.ensures.ok, c.in_ok-to.ensures.ok, c.i
 
 pub returns-clause-closes : goal.returns-clause-closes
 returns-clause-closes c = rw (c.in_ok-cell.ensures.ok, c.in_ok-to.ensures.ok, c.in_ok-to.ensures.wire) (Closes-made c.args.self.now _ c.args.cell (λ s. s))
-
-pub returns-clause-names : goal.returns-clause-names
-returns-clause-names c = rw (c.in_ok-cell.ensures.ok, c.in_ok-to.ensures.ok) (λ other ne h. IsNew-made c.args.self.now.instances c.args.self.now.nets _ other ne h)
