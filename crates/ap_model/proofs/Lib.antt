@@ -1,4 +1,6 @@
 pub mod CountedLaws
+pub mod DoneLemmas
 pub mod PlainWidths
+pub mod PortLists
 pub mod StageLemmas
 pub mod Worked

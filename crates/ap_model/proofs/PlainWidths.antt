@@ -41,16 +41,16 @@ not_true : (b : Bool) → not b ≡ true → b ≡ false
 not_true true e = cc
 not_true false e = refl
 
-not_false : (b : Bool) → not b ≡ false → b ≡ true
+pub not_false : (b : Bool) → not b ≡ false → b ≡ true
 not_false true e = refl
 not_false false e = cc
 
-or_false : (a b : Bool) → (a || b) ≡ false → (a ≡ false) × (b ≡ false)
+pub or_false : (a b : Bool) → (a || b) ≡ false → (a ≡ false) × (b ≡ false)
 or_false true b e = cc
 or_false false b e = (refl, e)
 
 -- what holds of a line that has its widths
-faultless : (design : Design) (width : Arg → ℕ) (a : Act) → IsTrue (has_widths design width a)
+pub faultless : (design : Design) (width : Arg → ℕ) (a : Act) → IsTrue (has_widths design width a)
     → (has_bad_width width a ≡ false) × (differs design width a ≡ false) × (is_bad_slice width a ≡ false) × (is_wide_constant a ≡ false) × (is_not_one_bit width a ≡ false) × (is_no_target design width a ≡ false)
 faultless design width a h =
     let parts = six (not (has_bad_width width a)) (not (differs design width a)) (not (is_bad_slice width a)) (not (is_wide_constant a)) (not (is_not_one_bit width a)) (not (is_no_target design width a)) h in

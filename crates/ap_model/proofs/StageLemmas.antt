@@ -1,7 +1,8 @@
 -- The locals of an instruction, stage by stage: how many there are when it comes to a stage, and which width the next one has.
-use Rattle.std.proofs.Common.{◌≡◌, ℕ, zero, suc, ◌+◌, ◌-◌, ◌^◌, ◌<◌, ◌≤◌, ◌==◌, ◌&&◌, ◌||◌, nat_lt, not, Bool, true, false, IsTrue, IsSomeAnd, IfSome, if◌then◌else◌, List, [], ◌∷◌, ◌++◌, length, filter, filter_map, find, take, drop, cond, option_to_list, Option, Some, None, slice_get, slice_index, get_or, unwrap_or, refl, ap, sym, subst, ◌∙◌, arith, add-one, add-zero, zero-add, flat_map, append_assoc, append-nil, length-append, eq-or-lt_of_le, inl, inr, eq-eqb, eqb-true, ltb-true, ltb-false, lt-ltb, pow_pos}
+use Rattle.std.proofs.Common.{◌≡◌, ℕ, zero, suc, ◌+◌, ◌-◌, ◌^◌, ◌<◌, ◌≤◌, ◌==◌, ◌&&◌, ◌||◌, nat_lt, not, Bool, true, false, IsTrue, IsSomeAnd, IfSome, if◌then◌else◌, List, [], ◌∷◌, ◌++◌, length, filter, filter_map, find, take, drop, cond, option_to_list, Option, Some, None, slice_get, slice_index, get_or, unwrap_or, refl, ap, sym, subst, ◌∙◌, arith, add-one, add-zero, zero-add, flat_map, append_assoc, append-nil, length-append, le_antisymm, eq-or-lt_of_le, inl, inr, eq-eqb, eqb-true, ltb-true, ltb-false, lt-ltb, pow_pos}
 use Rattle.std.proofs.lemmas.Bool.Decides.{nat_tests}
 use Rattle.std.proofs.lemmas.List.Elements.{filter-append, filter_map-append}
+use Rattle.std.proofs.lemmas.Option.{slice_get-get_or}
 use Rattle.std.specs.List.{AllByRecursion as Each, list_any, list_all, cons_option}
 use Rattle.std.specs.Option.{option_map_or}
 use Rattle.ap_bits.specs.declared.card.Card.{Card}
@@ -21,15 +22,10 @@ use Rattle.ap_desc.specs.declared.design.Instr.{Instr}
 use Rattle.ap_desc.specs.declared.design.Micro.{Micro}
 use Rattle.ap_desc.specs.declared.fault.Fault.TheVariants as f
 use Rattle.ap_model.specs.Fire.{Sight, act_value, arg_value, bits_of_arg, fields_of, instr_of, is_match, lines_in, locals_after}
-use Rattle.ap_model.specs.Fitting.{LocalsFit, LocalsStand, SightFits, WordStands, assigned_by, assigned_width, lines_before, width_of_act, GoesByLine, locals_after_line}
+use Rattle.ap_model.specs.Fitting.{LocalsFit, LocalsStand, SightFits, WordStands, assigned_by, assigned_width, lines_before, width_of_act, IsGood, NeverFall, NoneInZero, GoesByLine, locals_after_line}
 use Rattle.ap_model.proofs.PlainWidths.{list_all_get}
 
 -- The lines of a clean design stand in the order of their stages, none of them in stage 0.
-
-abbrev pub NeverFall : List Micro → Type 0
-NeverFall [] = Unit {0}
-NeverFall (m ∷ []) = Unit {0}
-NeverFall (m ∷ n ∷ micros) = (m.stage ≤ n.stage) × NeverFall (n ∷ micros)
 
 not_below : (a b : ℕ) (rest : Bool) → ((nat_lt b a && true) || rest) ≡ false → a ≤ b
 not_below a b rest e = grind (arith, nat_tests)
@@ -56,10 +52,6 @@ none_of_any test x xs e = or_parts _ _ e
 each_never_falls : (instrs : List Instr) → ((line : ℕ) → list_any (λ (i : Instr). steps_back i.micros line) instrs ≡ false) → Each (λ (i : Instr). NeverFall i.micros) instrs
 each_never_falls [] none = tt
 each_never_falls (i ∷ instrs) none = (never_fall i.micros (λ line. (or_parts _ _ (none line)).0), each_never_falls instrs (λ line. (or_parts _ _ (none line)).1))
-
--- no line is in stage 0
-abbrev pub NoneInZero : List Micro → Type 0
-NoneInZero micros = Each (λ (m : Micro). 1 ≤ m.stage) micros
 
 not_zero : (a : ℕ) (rest : Bool) → (((a == 0) && true) || rest) ≡ false → 1 ≤ a
 not_zero a rest e = grind (arith, nat_tests)
@@ -92,13 +84,6 @@ found {X} P test (y ∷ ys) x each at = go (test y) (found P test ys x each.1) a
     go : (b : Bool) → (find test ys ≡ Some x → P x) → cond b (Some y) (find test ys) ≡ Some x → P x
     go true later e = let same : y ≡ x = cc in subst P same each.0
     go false later e = later e
-
--- an instruction of a clean design
-pub record IsGood (design : Design) (instr : Instr) : Type 0 where
-  pub right : IsInstr design (fields_of design instr) instr
-  pub typed : IsTrue (are_lines_typed design instr (fields_of design instr))
-  pub order : NeverFall instr.micros
-  pub later : NoneInZero instr.micros
 
 of_format : (o : Option Format) (Q : List Field → Type 0) → IsSomeAnd o (λ (format : Format). Q format.fields) → Q (option_map_or (λ (format : Format). format.fields) o [])
 of_format None Q h = absurd h
@@ -221,14 +206,14 @@ none_at_first (m ∷ micros) later = rw (isnt_below m.stage 1 later.0) (none_at_
 
 -- Going through the lines of a stage.
 
-drop_next : {X : Type 0} (xs : List X) (i : ℕ) (x : X) → slice_get xs i ≡ Some x → drop i xs ≡ x ∷ drop (i + 1) xs
+pub drop_next : {X : Type 0} (xs : List X) (i : ℕ) (x : X) → slice_get xs i ≡ Some x → drop i xs ≡ x ∷ drop (i + 1) xs
 drop_next [] i x at = cc
 drop_next (y ∷ xs) zero x at = let same : y ≡ x = cc in ap (λ z. z ∷ xs) same
 drop_next (y ∷ xs) (suc i) x at =
     let more : suc (i + 1) ≡ suc i + 1 = omega arith in
     drop_next xs i x at ∙ ap (λ n. x ∷ drop n (y ∷ xs)) more
 
-take_next : {X : Type 0} (xs : List X) (i : ℕ) (x : X) → slice_get xs i ≡ Some x → take (i + 1) xs ≡ take i xs ++ x ∷ []
+pub take_next : {X : Type 0} (xs : List X) (i : ℕ) (x : X) → slice_get xs i ≡ Some x → take (i + 1) xs ≡ take i xs ++ x ∷ []
 take_next [] i x at = cc
 take_next (y ∷ xs) zero x at = let same : y ≡ x = cc in ap (λ z. z ∷ []) same
 take_next (y ∷ xs) (suc i) x at =
@@ -302,7 +287,7 @@ reached_none sight stage start i locals m reached at on none =
     let unassigned : width m ≡ None = none_assigned sight (arg_value sight locals) m.line m.act none in
     let counts = more ∙ ap (λ o. counted width (within stage (take i sight.instr.micros)) + length (cons_option o [])) unassigned in
     let step : locals_after sight locals (m ∷ rest) ≡ locals_after sight locals rest =
-      ap (λ o. locals_after sight (locals ++ option_to_list o) rest) none ∙ ap (λ xs. locals_after sight xs rest) (append-nil locals) in
+    ap (λ o. locals_after sight (locals ++ option_to_list o) rest) none ∙ ap (λ xs. locals_after sight xs rest) (append-nil locals) in
     record {
       same = sym step ∙ ap (locals_after sight locals) (sym lines) ∙ reached.same;
       fit = reached.fit;
@@ -323,7 +308,7 @@ reached_some sight stage start i locals m v good reached at on some fits =
     let step : locals_after sight locals (m ∷ rest) ≡ locals_after sight (locals ++ v ∷ []) rest = ap (λ o. locals_after sight (locals ++ option_to_list o) rest) some in
     let so_far : counted width (take i micros) ≡ length locals = sym (counted_to width stage micros i m good.order at (eqb-true m.stage stage on)) ∙ sym reached.count in
     let place : slice_get sight.instr.locals (length locals) ≡ Some (width_of_act sight m.act) =
-      ap (λ ws. slice_get ws (length locals)) good.right.locals ∙ ap (slice_get (filter_map width micros)) (sym so_far) ∙ at_place width micros i m (width_of_act sight m.act) at assigned in
+    ap (λ ws. slice_get ws (length locals)) good.right.locals ∙ ap (slice_get (filter_map width micros)) (sym so_far) ∙ at_place width micros i m (width_of_act sight m.act) at assigned in
     let limit : width_at (λ w. w) sight.instr.locals (length locals) ≡ width_of_act sight m.act = ap (λ o. option_map_or (λ w. w) o 0) place in
     record {
       same = sym step ∙ ap (locals_after sight locals) (sym lines) ∙ reached.same;
@@ -338,6 +323,7 @@ reached_line sight stage start i locals m good reached at fits = go (m.stage == 
     by_value : (m.stage == stage) ≡ true → (o : Option ℕ) → act_value sight (arg_value sight locals) m.line m.act ≡ o → IfSome o (λ v. v < 2 ^ width_of_act sight m.act) → IsReached sight stage start (i + 1) (locals ++ option_to_list o)
     by_value on None e h = subst (IsReached sight stage start (i + 1)) (sym (append-nil locals)) (reached_none sight stage start i locals m reached at on e)
     by_value on (Some v) e h = reached_some sight stage start i locals m v good reached at on e h
+
     go : (b : Bool) → (m.stage == stage) ≡ b → IsReached sight stage start (i + 1) (if b then locals ++ option_to_list (act_value sight (arg_value sight locals) m.line m.act) else locals)
     go true on = by_value on (act_value sight (arg_value sight locals) m.line m.act) refl fits
     go false off = reached_skip sight stage start i locals m reached at off
@@ -355,15 +341,57 @@ reached_all sight stage start locals reached =
     let width = assigned_width sight.design sight.instr in
     let micros = sight.instr.micros in
     let none : drop (length micros) micros ≡ [] = drop_all micros in
-    let all : take (length micros) micros ≡ micros = take_all_of micros in
-    (ap (λ ms. locals_after sight locals (within stage ms)) (sym none) ∙ reached.same, record {
-      fit = reached.fit;
-      count = reached.count ∙ ap (λ ms. counted width (before stage micros) + counted width (within stage ms)) all ∙ counted_next width stage micros;
-    })
+    let all : take (length micros) micros ≡ micros = take_all_of micros in (
+      ap (λ ms. locals_after sight locals (within stage ms)) (sym none) ∙ reached.same,
+      record {
+        fit = reached.fit;
+        count = reached.count ∙ ap (λ ms. counted width (before stage micros) + counted width (within stage ms)) all ∙ counted_next width stage micros;
+      },
+    )
   where
     drop_all : (xs : List Micro) → drop (length xs) xs ≡ []
     drop_all [] = refl
     drop_all (x ∷ xs) = drop_all xs
+
     take_all_of : (xs : List Micro) → take (length xs) xs ≡ xs
     take_all_of [] = refl
     take_all_of (x ∷ xs) = ap (λ rest. x ∷ rest) (take_all_of xs)
+
+-- One line, as the program goes by it.
+
+pub goes_push : (sight : Sight) (stage : ℕ) (micro : Micro) (old new : List ℕ) (v : ℕ) → micro.stage ≡ stage → Some v ≡ act_value sight (arg_value sight old) micro.line micro.act → v < 2 ^ width_of_act sight micro.act
+    → new ≡ old ++ v ∷ [] → GoesByLine sight stage micro old new
+goes_push sight stage micro old new v here value fits more = record {
+  value = more ∙ ap (λ o. old ++ option_to_list o) value ∙ ap (λ b. if b then old ++ option_to_list (act_value sight (arg_value sight old) micro.line micro.act) else old) (sym (eq-eqb micro.stage stage here));
+  fits = subst (λ o. IfSome o (λ v. v < 2 ^ width_of_act sight micro.act)) value fits;
+}
+
+pub goes_none : (sight : Sight) (stage : ℕ) (micro : Micro) (old : List ℕ) → None ≡ act_value sight (arg_value sight old) micro.line micro.act → GoesByLine sight stage micro old old
+goes_none sight stage micro old value = record {
+  value = both (micro.stage == stage) ∙ ap (λ o. if (micro.stage == stage) then old ++ option_to_list o else old) value;
+  fits = subst (λ o. IfSome o (λ v. v < 2 ^ width_of_act sight micro.act)) value tt;
+}
+  where
+    both : (b : Bool) → old ≡ (if b then old ++ [] else old)
+    both true = sym (append-nil old)
+    both false = refl
+
+pub goes_past : (sight : Sight) (stage : ℕ) (micro : Micro) (old : List ℕ) (o : Option ℕ) → (micro.stage ≡ stage → ⊥) → o ≡ act_value sight (arg_value sight old) micro.line micro.act → IfSome o (λ v. v < 2 ^ width_of_act sight micro.act)
+    → GoesByLine sight stage micro old old
+goes_past sight stage micro old o elsewhere value fits = record {
+  value = ap (λ b. if b then old ++ option_to_list (act_value sight (arg_value sight old) micro.line micro.act) else old) (sym (if_not (micro.stage == stage) (λ e. elsewhere (eqb-true micro.stage stage e))));
+  fits = subst (λ o. IfSome o (λ v. v < 2 ^ width_of_act sight micro.act)) value fits;
+}
+
+-- The loop of the program.
+
+pub reached_item : (sight : Sight) (stage : ℕ) (start : List ℕ) (items : List Micro) (i : ℕ) (d : Micro) (old new : List ℕ) → items ≡ sight.instr.micros → i < length items → IsGood sight.design sight.instr
+    → IsReached sight stage start i old → GoesByLine sight stage (get_or items i d) old new → IsReached sight stage start (i + 1) new
+reached_item sight stage start items i d old new same lt good reached goes =
+    reached_next sight stage start i old new (get_or items i d) good reached (subst (λ xs. slice_get xs i ≡ Some (get_or items i d)) same (slice_get-get_or items i d lt)) goes
+
+pub reached_end : (sight : Sight) (stage : ℕ) (start : List ℕ) (items : List Micro) (i : ℕ) (locals : List ℕ) → items ≡ sight.instr.micros → length items ≤ i → i ≤ length items → IsReached sight stage start i locals
+    → (locals ≡ locals_after sight start (lines_in stage sight.instr)) × LocalsStand sight.design sight.instr (stage + 1) locals
+reached_end sight stage start items i locals same low high reached =
+    let whole : i ≡ length sight.instr.micros = le_antisymm high low ∙ ap length same in
+    reached_all sight stage start locals (subst (λ n. IsReached sight stage start n locals) whole reached)

@@ -1,8 +1,9 @@
 -- Values that fit their widths: those of locals, of storages, and of all that a line looks at.
 use Rattle.std.specs.List.{AllByRecursion as Each}
-use Rattle.std.specs.Prelude.{ℕ, ◌+◌, ◌==◌, ◌++◌, if◌then◌else◌, IfSome, option_to_list, ◌<◌, ◌^◌, ◌≡◌, nat_lt, List, length, filter, filter_map, Option, Some, slice_index, unwrap_or}
+use Rattle.std.specs.Prelude.{ℕ, ◌+◌, ◌==◌, ◌++◌, if◌then◌else◌, IfSome, option_to_list, ◌<◌, ◌^◌, ◌≡◌, nat_lt, ◌≤◌, IsTrue, [], ◌∷◌, List, length, filter, filter_map, Option, Some, slice_index, unwrap_or}
 use Rattle.ap_desc.specs.Clean.{FitsCards}
-use Rattle.ap_desc.specs.Designs.{local_width, width_at}
+use Rattle.ap_desc.specs.Designs.{IsInstr, local_width, width_at}
+use Rattle.ap_desc.specs.Sound.{are_lines_typed}
 use Rattle.ap_desc.specs.Widths.{reg_width, file_width, mem_width}
 use Rattle.ap_desc.specs.declared.design.Design.{Design}
 use Rattle.ap_desc.specs.declared.design.InPort.{InPort}
@@ -10,6 +11,7 @@ use Rattle.ap_desc.specs.declared.design.Act.{Act}
 use Rattle.ap_desc.specs.declared.design.Instr.{Instr}
 use Rattle.ap_desc.specs.declared.design.Micro.{Micro}
 use Rattle.ap_model.specs.declared.state.Done.{Done}
+use Rattle.ap_model.specs.declared.state.Flight.{Flight}
 use Rattle.ap_model.specs.declared.storage.PortWrite.{PortWrite}
 use Rattle.ap_model.specs.declared.storage.WritePort.{WritePort}
 use Rattle.ap_model.specs.declared.storage.WritePort.TheVariants as port
@@ -73,11 +75,6 @@ pub record GoesByLine (sight : Sight) (stage : ℕ) (micro : Micro) (old new : L
   pub value : new ≡ locals_after_line sight stage old micro
   pub fits : IfSome (act_value sight (arg_value sight old) micro.line micro.act) (λ v. v < 2 ^ width_of_act sight micro.act)
 
--- what a word's instruction did: its locals stand for the next stage, its target is an address
-pub record DoneFits (design : Design) (word stage : ℕ) (done : Done) : Type 0 where
-  pub locals : WordStands design word (stage + 1) done.locals
-  pub target : IfSome done.target (λ t. t < 2 ^ design.address)
-
 -- the bits of what a port writes
 abbrev pub port_width : Design → WritePort → ℕ
 port_width design (port.Register reg) = reg_width design reg
@@ -87,3 +84,40 @@ port_width design (port.Memory mem) = mem_width design mem
 -- each write fits what it writes to
 abbrev pub WritesFit : Design → List PortWrite → Type 0
 WritesFit design writes = Each (λ (w : PortWrite). w.value < 2 ^ port_width design w.port) writes
+
+-- what a word's instruction did in a stage: its locals stand for the next stage, its target is an address, and its writes fit
+pub record DoneFits (design : Design) (word stage : ℕ) (done : Done) : Type 0 where
+  pub locals : WordStands design word (stage + 1) done.locals
+  pub target : IfSome done.target (λ t. t < 2 ^ design.address)
+  pub writes : WritesFit design done.writes
+
+-- a flight in a stage: its word and its place fit, and its locals stand
+pub record FlightFits (design : Design) (stage : ℕ) (flight : Flight) : Type 0 where
+  pub word : flight.word < 2 ^ 64
+  pub place : flight.place < 2 ^ design.address
+  pub locals : WordStands design flight.word stage flight.locals
+
+-- the values of the input ports fit
+abbrev pub PortsFit : Design → List ℕ → Type 0
+PortsFit design ports = (input : ℕ) → slice_index ports input < 2 ^ input_width design input
+
+-- the stages of the lines never fall
+abbrev pub NeverFall : List Micro → Type 0
+NeverFall [] = Unit {0}
+NeverFall (m ∷ []) = Unit {0}
+NeverFall (m ∷ n ∷ micros) = (m.stage ≤ n.stage) × NeverFall (n ∷ micros)
+
+-- no line is in stage 0
+abbrev pub NoneInZero : List Micro → Type 0
+NoneInZero micros = Each (λ (m : Micro). 1 ≤ m.stage) micros
+
+-- an instruction of a clean design
+pub record IsGood (design : Design) (instr : Instr) : Type 0 where
+  pub right : IsInstr design (fields_of design instr) instr
+  pub typed : IsTrue (are_lines_typed design instr (fields_of design instr))
+  pub order : NeverFall instr.micros
+  pub later : NoneInZero instr.micros
+
+-- each flight has waited for fewer cycles than this
+abbrev pub WaitsWithin : ℕ → List (Option Flight) → Type 0
+WaitsWithin limit flights = Each (λ (o : Option Flight). IfSome o (λ (f : Flight). f.waited < limit)) flights

@@ -14,6 +14,7 @@ use ap_bits::{Card, Items, eval, mask, sext};
 use ap_desc::design::{Act, Arg, Design, Field, Instr};
 
 /// What the lines of an instruction look at besides the locals.
+#[derive(Drop)]
 pub(crate) struct View<'a> {
     pub design: &'a Design,
     pub cards: &'a [Card],
