@@ -1,6 +1,9 @@
 pub mod CountedLaws
 pub mod DoneLemmas
+pub mod MachineFits
 pub mod PlainWidths
 pub mod PortLists
+pub mod SceneLemmas
 pub mod StageLemmas
+pub mod StorageLemmas
 pub mod Worked

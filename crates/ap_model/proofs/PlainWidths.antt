@@ -98,7 +98,7 @@ unit_within sight i u fits at =
     let is = and_parts _ _ (list_all_get (λ (x : Resource). is_width x.width) sight.design.units i u units at) in
     (leb-true _ _ is.0, leb-true _ _ is.1)
 
-address_within : (design : Design) → IsTrue (is_between 4 16 design.address) → design.address ≤ 16
+pub address_within : (design : Design) → IsTrue (is_between 4 16 design.address) → design.address ≤ 16
 address_within design h = leb-true _ _ (and_parts _ _ h).1
 
 -- a place is far below the end of 64 bits

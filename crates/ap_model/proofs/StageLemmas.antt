@@ -200,7 +200,7 @@ counted_next width stage (m ∷ micros) =
     split_three width m (before stage micros) (within stage micros) (before (stage + 1) micros) (nat_lt m.stage stage) (m.stage == stage) (nat_lt m.stage (stage + 1))
     (below_next m.stage stage) (not_both m.stage stage) (counted_next width stage micros)
 
-none_at_first : (micros : List Micro) → NoneInZero micros → before 1 micros ≡ []
+pub none_at_first : (micros : List Micro) → NoneInZero micros → before 1 micros ≡ []
 none_at_first [] later = refl
 none_at_first (m ∷ micros) later = rw (isnt_below m.stage 1 later.0) (none_at_first micros later.1)
 

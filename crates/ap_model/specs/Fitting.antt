@@ -121,3 +121,8 @@ pub record IsGood (design : Design) (instr : Instr) : Type 0 where
 -- each flight has waited for fewer cycles than this
 abbrev pub WaitsWithin : ℕ → List (Option Flight) → Type 0
 WaitsWithin limit flights = Each (λ (o : Option Flight). IfSome o (λ (f : Flight). f.waited < limit)) flights
+
+-- the flights from a stage on fit
+abbrev pub FlightsFit : Design → ℕ → List (Option Flight) → Type 0
+FlightsFit design stage [] = Unit {0}
+FlightsFit design stage (flight ∷ flights) = IfSome flight (FlightFits design stage) × FlightsFit design (stage + 1) flights

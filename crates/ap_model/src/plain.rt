@@ -3,6 +3,8 @@
 
 mod lists;
 mod ports;
+mod scene;
 mod stage;
 mod stalls;
+mod storages;
 mod values;
