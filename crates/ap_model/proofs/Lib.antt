@@ -3,6 +3,7 @@ pub mod DoneLemmas
 pub mod MachineFits
 pub mod PlainWidths
 pub mod PortLists
+pub mod RunLemmas
 pub mod SceneLemmas
 pub mod StageLemmas
 pub mod StorageLemmas

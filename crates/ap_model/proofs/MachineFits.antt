@@ -1,5 +1,5 @@
 -- A machine's state fits, cycle by cycle.
-use Rattle.std.proofs.Common.{◌≡◌, ℕ, zero, suc, ◌+◌, ◌-◌, ◌≤◌, ◌<◌, ◌^◌, ◌&&◌, Bool, true, false, if◌then◌else◌, IsTrue, IfSome, List, [], ◌∷◌, ◌++◌, length, map, fold, max, filter, replicate, set, get_or, slice_get, slice_index, slice_index_or, is_some, Option, Some, None, option_map, refl, ap, sym, subst, ◌∙◌, arith, leb-true, ltb-true, pow_pos, pow_mono, lt_of_lt_of_le, mod-lt, le_of_lt}
+use Rattle.std.proofs.Common.{◌≡◌, ℕ, zero, suc, ◌+◌, ◌-◌, ◌≤◌, ◌<◌, ◌^◌, ◌&&◌, ◌||◌, Bool, true, false, if◌then◌else◌, IsTrue, IfSome, List, [], ◌∷◌, ◌++◌, length, map, fold, max, filter, replicate, set, get_or, slice_get, slice_index, slice_index_or, is_some, Option, Some, None, option_map, refl, ap, sym, subst, ◌∙◌, arith, leb-true, ltb-true, pow_pos, pow_mono, lt_of_lt_of_le, mod-lt, le_of_lt}
 use Rattle.std.proofs.lemmas.Bool.{and_parts}
 use Rattle.std.specs.List.{AllByRecursion as Each, list_all}
 use Rattle.std.specs.Option.{option_map_or}
@@ -24,13 +24,14 @@ use Rattle.ap_model.specs.declared.storage.PortWrite.{PortWrite}
 use Rattle.ap_model.specs.declared.storage.Storages.{Storages}
 use Rattle.ap_model.specs.declared.storage.WritePort.{WritePort}
 use Rattle.ap_model.specs.declared.storage.WritePort.TheVariants as port
-use Rattle.ap_model.specs.Cycles.{Course, fetched, inputs_at, is_killed, unkilled_number, from_last}
+use Rattle.ap_model.specs.Cycles.{Course, fetched, flight_at, unkilled_numbers, inputs_at, is_killed, unkilled_number, from_last}
 use Rattle.ap_model.specs.DesignShape.{shape_of}
-use Rattle.ap_model.specs.Fitting.{FlightFits, FlightsFit, IsGood, LocalsStand, NoneInZero, PortsFit, StoragesFit, WaitsWithin, WordStands, WritesFit, assigned_by, input_width, lines_before, port_width}
+use Rattle.ap_model.specs.Fitting.{FlightFits, FlightsFit, IsGood, LocalsStand, NoneInZero, PortsFit, StoragesFit, WaitsWithin, WordStands, WritesFit, CountsWithin, StateFits, assigned_by, input_width, lines_before, port_width}
 use Rattle.ap_model.specs.Fire.{instr_of}
 use Rattle.ap_model.specs.States.{start_storages}
 use Rattle.ap_model.specs.Stored.{with_value, with_word, with_write, with_writes}
 use Rattle.ap_model.proofs.PlainWidths.{address_within}
+use Rattle.ap_model.proofs.DoneLemmas.{each_append}
 use Rattle.ap_model.proofs.StageLemmas.{none_at_first, word_is_good}
 
 -- Storages after writes.
@@ -171,3 +172,44 @@ flight_at_fits design (o ∷ flights) stage zero flight fits at =
 flight_at_fits design (o ∷ flights) stage (suc i) flight fits at =
     let here : stage + 1 + i ≡ stage + suc i = omega arith in
     subst (λ s. FlightFits design s flight) here (flight_at_fits design flights (stage + 1) i flight fits.1 at)
+
+at_place : {X : Type 0} (xs : List (Option X)) (i : ℕ) (x : X) → Some x ≡ slice_index_or xs i None → slice_get xs i ≡ Some (Some x)
+at_place [] i x at = cc
+at_place (o ∷ xs) zero x at = ap Some (sym at)
+at_place (o ∷ xs) (suc i) x at = at_place xs i x at
+
+branch_within : (design : Design) → IsTrue (is_between 1 (design.stages - 1) design.branch) → 1 ≤ design.branch
+branch_within design h = leb-true _ _ (and_parts _ _ h).0
+
+-- the flight in the transfer stage
+pub transfer_fits : (design : Design) (cards : List Card) (state : State) (flight : Flight) → FitsCards design cards → StateFits design state → Some flight ≡ flight_at state design.branch → FlightFits design design.branch flight
+transfer_fits design cards state flight fits stands at =
+    let low = branch_within design fits.clean.sound.within.branch in
+    let here : 1 + (design.branch - 1) ≡ design.branch = omega (arith, low) in
+    subst (λ s. FlightFits design s flight) here (flight_at_fits design state.flights 1 (design.branch - 1) flight stands.flights (at_place state.flights (design.branch - 1) flight at))
+
+-- The numbers.
+
+numbers_within : (design : Design) (course : Course) (limit stage : ℕ) (flights : List (Option Flight)) → Each (λ (o : Option Flight). IfSome o (λ (f : Flight). f.number ≤ limit)) flights
+    → Each (λ n. n ≤ limit) (from_last (unkilled_number design course) stage flights)
+numbers_within design course limit stage [] each = tt
+numbers_within design course limit stage (None ∷ flights) each = each_append (λ n. n ≤ limit) (from_last (unkilled_number design course) (stage + 1) flights) [] (numbers_within design course limit (stage + 1) flights each.1) tt
+numbers_within design course limit stage (Some f ∷ flights) each =
+    each_append (λ n. n ≤ limit) (from_last (unkilled_number design course) (stage + 1) flights) (unkilled_number design course stage f) (numbers_within design course limit (stage + 1) flights each.1) (go (is_killed design course stage))
+  where
+    go : (b : Bool) → Each (λ n. n ≤ limit) (if b then [] else f.number ∷ [])
+    go true = tt
+    go false = (each.0, tt)
+
+fold_within : (limit : ℕ) (first : ℕ) (numbers : List ℕ) → first ≤ limit → Each (λ n. n ≤ limit) numbers → fold max first numbers ≤ limit
+fold_within limit first [] h each = h
+fold_within limit first (n ∷ numbers) h each = fold_within limit (max first n) numbers (omega (arith, h, each.0)) each.1
+
+pub greatest_within : (limit : ℕ) (design : Design) (state : State) (course : Course) → CountsWithin limit state → fold max 0 (unkilled_numbers design state course) ≤ limit
+greatest_within limit design state course counts =
+    fold_within limit 0 (unkilled_numbers design state course) (omega arith)
+    (each_append (λ n. n ≤ limit) (from_last (unkilled_number design course) 1 state.flights) (if course.held 0 || is_killed design course 0 then [] else state.next ∷ []) (numbers_within design course limit 1 state.flights counts.numbers) (go (course.held 0 || is_killed design course 0)))
+  where
+    go : (b : Bool) → Each (λ n. n ≤ limit) (if b then [] else state.next ∷ [])
+    go true = tt
+    go false = (counts.next, tt)

@@ -1,6 +1,6 @@
 -- Values that fit their widths: those of locals, of storages, and of all that a line looks at.
 use Rattle.std.specs.List.{AllByRecursion as Each}
-use Rattle.std.specs.Prelude.{ℕ, ◌+◌, ◌==◌, ◌++◌, if◌then◌else◌, IfSome, option_to_list, ◌<◌, ◌^◌, ◌≡◌, nat_lt, ◌≤◌, IsTrue, [], ◌∷◌, List, length, filter, filter_map, Option, Some, slice_index, unwrap_or}
+use Rattle.std.specs.Prelude.{ℕ, ◌+◌, ◌-◌, ◌==◌, ◌++◌, if◌then◌else◌, IfSome, option_to_list, ◌<◌, ◌^◌, ◌≡◌, nat_lt, ◌≤◌, IsTrue, [], ◌∷◌, List, length, filter, filter_map, Option, Some, slice_index, unwrap_or}
 use Rattle.ap_desc.specs.Clean.{FitsCards}
 use Rattle.ap_desc.specs.Designs.{IsInstr, local_width, width_at}
 use Rattle.ap_desc.specs.Sound.{are_lines_typed}
@@ -11,7 +11,9 @@ use Rattle.ap_desc.specs.declared.design.Act.{Act}
 use Rattle.ap_desc.specs.declared.design.Instr.{Instr}
 use Rattle.ap_desc.specs.declared.design.Micro.{Micro}
 use Rattle.ap_model.specs.declared.state.Done.{Done}
+use Rattle.ap_model.specs.declared.state.Entry.{Entry}
 use Rattle.ap_model.specs.declared.state.Flight.{Flight}
+use Rattle.ap_model.specs.declared.state.State.{State}
 use Rattle.ap_model.specs.declared.storage.PortWrite.{PortWrite}
 use Rattle.ap_model.specs.declared.storage.WritePort.{WritePort}
 use Rattle.ap_model.specs.declared.storage.WritePort.TheVariants as port
@@ -85,6 +87,10 @@ port_width design (port.Memory mem) = mem_width design mem
 abbrev pub WritesFit : Design → List PortWrite → Type 0
 WritesFit design writes = Each (λ (w : PortWrite). w.value < 2 ^ port_width design w.port) writes
 
+-- each logged write fits what it writes to
+abbrev pub EntriesFit : Design → List Entry → Type 0
+EntriesFit design entries = Each (λ (e : Entry). e.write.value < 2 ^ port_width design e.write.port) entries
+
 -- what a word's instruction did in a stage: its locals stand for the next stage, its target is an address, and its writes fit
 pub record DoneFits (design : Design) (word stage : ℕ) (done : Done) : Type 0 where
   pub locals : WordStands design word (stage + 1) done.locals
@@ -126,3 +132,16 @@ WaitsWithin limit flights = Each (λ (o : Option Flight). IfSome o (λ (f : Flig
 abbrev pub FlightsFit : Design → ℕ → List (Option Flight) → Type 0
 FlightsFit design stage [] = Unit {0}
 FlightsFit design stage (flight ∷ flights) = IfSome flight (FlightFits design stage) × FlightsFit design (stage + 1) flights
+
+-- a state fits: its pc is an address, its storages and its flights fit, and there is a place for each stage from 1 on
+pub record StateFits (design : Design) (state : State) : Type 0 where
+  pub pc : state.pc < 2 ^ design.address
+  pub storages : StoragesFit design state.storages
+  pub flights : FlightsFit design 1 state.flights
+  pub count : length state.flights ≡ design.stages - 1
+
+-- the numbers of flights and the cycles that they have waited are within a limit, and so is the next number
+pub record CountsWithin (limit : ℕ) (state : State) : Type 0 where
+  pub numbers : Each (λ (o : Option Flight). IfSome o (λ (f : Flight). f.number ≤ limit)) state.flights
+  pub waits : WaitsWithin (limit + 1) state.flights
+  pub next : state.next ≤ limit

@@ -2,7 +2,7 @@
 ghost use Rattle.std.specs.Prelude.{◌≡◌, ◌++◌, ◌+◌, ◌<◌, ◌^◌, [], IfOk, IfSome, OnOk, length, if◌then◌else◌, map, option_map};
 ghost use Rattle.std.specs.Option.{option_map_or};
 ghost use Rattle.ap_model.specs.Cycles.{done_in, entry_of, sample_of, flight_entries, flight_passes, flight_samples, flights_from, from_last, is_killed, leaving, staying, unkilled_number};
-ghost use Rattle.ap_model.specs.Fitting.{DoneFits, FlightFits, FlightsFit, WaitsWithin};
+ghost use Rattle.ap_model.specs.Fitting.{DoneFits, EntriesFit, FlightFits, FlightsFit, WaitsWithin};
 ghost use Rattle.ap_model.specs.Scenes.{SceneFits, course_of_scene};
 
 use super::lists::copied;
@@ -114,15 +114,16 @@ fn add_flight_entries(
 ) -> Result<(), NoMemory>
     requires scene { SceneFits scene.now }
     requires flight { IfSome flight.now (FlightFits scene.now.design.now stage) }
-    ensures { OnOk result (out.new ≡ out.old ++ option_map_or (flight_entries scene.now.design.now scene.now.cards.now scene.now.inputs.now scene.now.state.now (course_of_scene scene.now) stage) flight.now []) }
+    ensures value { OnOk result (out.new ≡ out.old ++ option_map_or (flight_entries scene.now.design.now scene.now.cards.now scene.now.inputs.now scene.now.state.now (course_of_scene scene.now) stage) flight.now []) }
+    ensures fits { OnOk result (EntriesFit scene.now.design.now (option_map_or (flight_entries scene.now.design.now scene.now.cards.now scene.now.inputs.now scene.now.state.now (course_of_scene scene.now) stage) flight.now [])) }
 {
     let Some(flight) = flight else {
         return Ok(());
     };
-    match done_in(alloc, scene, stage, flight)? {
-        Some(done) => add_writes(flight.number, stage, done.writes.as_slice(), out),
-        None => Ok(()),
+    if let Some(done) = done_in(alloc, scene, stage, flight)? {
+        add_writes(flight.number, stage, done.writes.as_slice(), out)?;
     }
+    Ok(())
 }
 
 /// Adds the samples of what stands in a stage.
@@ -196,13 +197,15 @@ pub(crate) fn add_entries(
     requires scene { SceneFits scene.now }
     requires room { stage + length flights.now < 100 }
     requires flights { FlightsFit scene.now.design.now stage flights.now }
-    ensures { OnOk result (out.new ≡ out.old ++ from_last (flight_entries scene.now.design.now scene.now.cards.now scene.now.inputs.now scene.now.state.now (course_of_scene scene.now)) stage flights.now) }
+    ensures value { OnOk result (out.new ≡ out.old ++ from_last (flight_entries scene.now.design.now scene.now.cards.now scene.now.inputs.now scene.now.state.now (course_of_scene scene.now)) stage flights.now) }
+    ensures fits { OnOk result (EntriesFit scene.now.design.now (from_last (flight_entries scene.now.design.now scene.now.cards.now scene.now.inputs.now scene.now.state.now (course_of_scene scene.now)) stage flights.now)) }
 {
     match flights {
         [] => Ok(()),
         [flight, rest @ ..] => {
             add_entries(alloc, scene, stage + 1, rest, out)?;
-            add_flight_entries(alloc, scene, stage, flight, out)
+            add_flight_entries(alloc, scene, stage, flight, out)?;
+            Ok(())
         }
     }
 }

@@ -67,7 +67,10 @@ fn set_list(
 }
 
 /// The same lists.
-fn copied_lists(alloc: Global, lists: &[Items<u64>]) -> Result<Items<Items<u64>>, NoMemory>
+pub(crate) fn copied_lists(
+    alloc: Global,
+    lists: &[Items<u64>],
+) -> Result<Items<Items<u64>>, NoMemory>
     ensures { IfOk result (λ list. list ≡ lists.now) }
 {
     let mut list = Items::new(alloc);

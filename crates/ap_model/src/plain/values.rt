@@ -52,7 +52,7 @@ fn above(v: u64, low: u32) -> u64
 
 /// The lowest bits of a value.
 #[tactic(auto, using(crate::proofs::PlainWidths::low_all, std::proofs::lemmas::Nat::and_mask))]
-fn low_bits(v: u64, width: u32) -> u64
+pub(crate) fn low_bits(v: u64, width: u32) -> u64
     ensures { result ≡ v % 2 ^ width }
 {
     if width == 0 {
