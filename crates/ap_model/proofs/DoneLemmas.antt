@@ -1,9 +1,9 @@
 -- What a stage does: it fits, and there are few parts to go over.
-use Rattle.std.proofs.Common.{◌≡◌, ℕ, ◌+◌, ◌≤◌, ◌<◌, ◌^◌, ◌==◌, Bool, true, false, not, ◌||◌, IsTrue, IfSome, List, [], ◌∷◌, ◌++◌, length, filter, filter_map, flat_map, cond, if◌then◌else◌, Option, Some, None, slice_get, slice_index, option_copied, refl, ap, sym, subst, ◌∙◌, arith, leb-true, eqb-true}
+use Rattle.std.proofs.Common.{◌≡◌, ℕ, ◌+◌, ◌≤◌, ◌<◌, ◌^◌, ◌==◌, Bool, true, false, IsTrue, IfSome, List, [], ◌∷◌, ◌++◌, length, filter, filter_map, flat_map, cond, if◌then◌else◌, Option, Some, None, slice_get, slice_index, ap, sym, subst, ◌∙◌, leb-true, eqb-true}
 use Rattle.std.proofs.lemmas.Bool.{and_parts}
 use Rattle.std.specs.List.{AllByRecursion as Each, list_all, cons_option}
 use Rattle.ap_bits.specs.declared.card.Card.{Card}
-use Rattle.ap_desc.specs.Widths.{differs, has_widths, file_width, is_no_target, mem_width, reg_width}
+use Rattle.ap_desc.specs.Widths.{has_widths}
 use Rattle.ap_desc.specs.declared.design.Act.{Act}
 use Rattle.ap_desc.specs.declared.design.Act.TheVariants as act
 use Rattle.ap_desc.specs.declared.design.Arg.{Arg}
@@ -15,7 +15,6 @@ use Rattle.ap_model.specs.declared.state.Flight.{Flight}
 use Rattle.ap_model.specs.declared.state.InputRead.{InputRead}
 use Rattle.ap_model.specs.declared.storage.PortWrite.{PortWrite}
 use Rattle.ap_model.specs.declared.storage.Storages.{Storages}
-use Rattle.ap_model.specs.declared.storage.WritePort.TheVariants as port
 use Rattle.ap_desc.specs.Clean.{FitsCards}
 use Rattle.ap_model.specs.Fire.{Sight, arg_value, bits_of_arg, fire, instr_done, instr_of, lines_done, lines_in, locals_after, ordered, read_of, target_of, where_guard, write_of}
 use Rattle.ap_model.specs.Fitting.{DoneFits, FlightFits, IsGood, LocalsFit, LocalsStand, PortsFit, SightFits, StoragesFit, WordStands, WritesFit, port_width}

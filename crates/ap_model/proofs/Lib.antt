@@ -6,5 +6,6 @@ pub mod PortLists
 pub mod RunLemmas
 pub mod SceneLemmas
 pub mod StageLemmas
+pub mod StepLemmas
 pub mod StorageLemmas
 pub mod Worked

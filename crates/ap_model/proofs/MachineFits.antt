@@ -1,8 +1,7 @@
 -- A machine's state fits, cycle by cycle.
-use Rattle.std.proofs.Common.{◌≡◌, ℕ, zero, suc, ◌+◌, ◌-◌, ◌≤◌, ◌<◌, ◌^◌, ◌&&◌, ◌||◌, Bool, true, false, if◌then◌else◌, IsTrue, IfSome, List, [], ◌∷◌, ◌++◌, length, map, fold, max, filter, replicate, set, get_or, slice_get, slice_index, slice_index_or, is_some, Option, Some, None, option_map, refl, ap, sym, subst, ◌∙◌, arith, leb-true, ltb-true, pow_pos, pow_mono, lt_of_lt_of_le, mod-lt, le_of_lt}
+use Rattle.std.proofs.Common.{◌≡◌, ℕ, zero, suc, ◌+◌, ◌-◌, ◌≤◌, ◌<◌, ◌^◌, ◌||◌, Bool, true, false, if◌then◌else◌, IsTrue, IfSome, List, [], ◌∷◌, map, fold, max, replicate, set, get_or, slice_get, slice_index, slice_index_or, Option, Some, None, ap, sym, subst, arith, leb-true, ltb-true, pow_pos, pow_mono, lt_of_lt_of_le}
 use Rattle.std.proofs.lemmas.Bool.{and_parts}
 use Rattle.std.specs.List.{AllByRecursion as Each, list_all}
-use Rattle.std.specs.Option.{option_map_or}
 use Rattle.ap_bits.specs.declared.card.Card.{Card}
 use Rattle.ap_desc.specs.Clean.{FitsCards}
 use Rattle.ap_desc.specs.Designs.{is_between, is_reg_within, width_at}
@@ -10,12 +9,10 @@ use Rattle.ap_desc.specs.Widths.{file_width, mem_width, reg_width}
 use Rattle.ap_desc.specs.declared.design.Design.{Design}
 use Rattle.ap_desc.specs.declared.design.File.{File}
 use Rattle.ap_desc.specs.declared.design.InPort.{InPort}
-use Rattle.ap_desc.specs.declared.design.Instr.{Instr}
 use Rattle.ap_desc.specs.declared.design.Mem.{Mem}
 use Rattle.ap_desc.specs.declared.design.Reg.{Reg}
-use Rattle.ap_image.specs.FitsShape.{ImageFitsShape, LineFitsShape, MemsFit, TraceFitsShape, ValuesFit, WordsFit, idle, line_among, line_at}
+use Rattle.ap_image.specs.FitsShape.{ImageFitsShape, LineFitsShape, MemsFit, TraceFitsShape, ValuesFit, line_among}
 use Rattle.ap_image.specs.declared.image.Image.{Image}
-use Rattle.ap_image.specs.declared.shape.MemShape.{MemShape}
 use Rattle.ap_image.specs.declared.trace.Trace.{Trace}
 use Rattle.ap_image.specs.declared.trace.TraceLine.{TraceLine}
 use Rattle.ap_model.specs.declared.state.Flight.{Flight}
@@ -26,11 +23,9 @@ use Rattle.ap_model.specs.declared.storage.WritePort.{WritePort}
 use Rattle.ap_model.specs.declared.storage.WritePort.TheVariants as port
 use Rattle.ap_model.specs.Cycles.{Course, fetched, flight_at, unkilled_numbers, inputs_at, is_killed, unkilled_number, from_last}
 use Rattle.ap_model.specs.DesignShape.{shape_of}
-use Rattle.ap_model.specs.Fitting.{FlightFits, FlightsFit, IsGood, LocalsStand, NoneInZero, PortsFit, StoragesFit, WaitsWithin, WordStands, WritesFit, CountsWithin, StateFits, assigned_by, input_width, lines_before, port_width}
-use Rattle.ap_model.specs.Fire.{instr_of}
+use Rattle.ap_model.specs.Fitting.{FlightFits, FlightsFit, PortsFit, StoragesFit, WordStands, WritesFit, CountsWithin, StateFits, assigned_by, lines_before, port_width}
 use Rattle.ap_model.specs.States.{start_storages}
 use Rattle.ap_model.specs.Stored.{with_value, with_word, with_write, with_writes}
-use Rattle.ap_model.proofs.PlainWidths.{address_within}
 use Rattle.ap_model.proofs.DoneLemmas.{each_append}
 use Rattle.ap_model.proofs.StageLemmas.{none_at_first, word_is_good}
 

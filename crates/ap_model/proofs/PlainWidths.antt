@@ -1,15 +1,13 @@
 -- What a line's widths say of its operands, as numbers; and values that fit.
-use Rattle.std.proofs.Common.{◌≡◌, ℕ, zero, suc, ◌+◌, ◌-◌, ◌*◌, ◌/◌, ◌%◌, ◌^◌, ◌<◌, ◌≤◌, ◌==◌, ◌&&◌, ◌||◌, nat_le, nat_lt, not, Bool, true, false, IsTrue, List, [], ◌∷◌, ◌++◌, if◌then◌else◌, length, Option, Some, None, slice_get, slice_index, slice_index_or, bit_and, refl, ap, sym, subst, ◌∙◌, cond, arith, lit<, mod-lt, mul-le-mul_right, suc-mul, mod-eq_of_lt, pow_pos, pow_mono, lt_of_lt_of_le, leb-true, ltb-true, ltb-false, eqb-true}
+use Rattle.std.proofs.Common.{◌≡◌, ℕ, zero, suc, ◌+◌, ◌*◌, ◌/◌, ◌%◌, ◌^◌, ◌<◌, ◌≤◌, ◌&&◌, ◌||◌, not, Bool, true, false, IsTrue, List, [], ◌∷◌, Option, Some, None, slice_get, refl, sym, subst, arith, lit<, mod-lt, mul-le-mul_right, suc-mul, mod-eq_of_lt, pow_pos, pow_mono, lt_of_lt_of_le, leb-true, ltb-true, ltb-false, eqb-true}
 use Rattle.std.proofs.lemmas.Bool.{and_parts}
-use Rattle.std.proofs.lemmas.Bool.Decides.{nat_tests}
-use Rattle.std.proofs.lemmas.Nat.{and_mask, pow-add}
+use Rattle.std.proofs.lemmas.Nat.{pow-add}
 use Rattle.std.proofs.Math.Nat.{div-eq_of_lt}
 use Rattle.std.proofs.Math.Pow.{shl_exact}
 use Rattle.std.specs.List.{list_all}
 use Rattle.std.specs.Option.{option_map_or}
 use Rattle.ap_bits.specs.Operations.{sign_extended}
-use Rattle.ap_desc.specs.Clean.{FitsCards}
-use Rattle.ap_desc.specs.Designs.{arg_width, field_value, is_width, is_between, local_width, width_at}
+use Rattle.ap_desc.specs.Designs.{field_value, is_width, is_between}
 use Rattle.ap_desc.specs.Widths.{differs, has_bad_width, has_widths, is_bad_slice, is_no_target, is_not_one_bit, is_wide_constant, unit_width}
 use Rattle.ap_desc.specs.declared.design.Design.{Design}
 use Rattle.ap_desc.specs.declared.design.Unit.{Unit as Resource}

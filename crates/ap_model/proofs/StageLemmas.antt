@@ -1,14 +1,13 @@
 -- The locals of an instruction, stage by stage: how many there are when it comes to a stage, and which width the next one has.
-use Rattle.std.proofs.Common.{◌≡◌, ℕ, zero, suc, ◌+◌, ◌-◌, ◌^◌, ◌<◌, ◌≤◌, ◌==◌, ◌&&◌, ◌||◌, nat_lt, not, Bool, true, false, IsTrue, IsSomeAnd, IfSome, if◌then◌else◌, List, [], ◌∷◌, ◌++◌, length, filter, filter_map, find, take, drop, cond, option_to_list, Option, Some, None, slice_get, slice_index, get_or, unwrap_or, refl, ap, sym, subst, ◌∙◌, arith, add-one, add-zero, zero-add, flat_map, append_assoc, append-nil, length-append, le_antisymm, eq-or-lt_of_le, inl, inr, eq-eqb, eqb-true, ltb-true, ltb-false, lt-ltb, pow_pos}
+use Rattle.std.proofs.Common.{◌≡◌, ℕ, zero, suc, ◌+◌, ◌^◌, ◌<◌, ◌≤◌, ◌==◌, ◌&&◌, ◌||◌, nat_lt, not, Bool, true, false, IsTrue, IsSomeAnd, IfSome, if◌then◌else◌, List, [], ◌∷◌, ◌++◌, length, filter, filter_map, find, take, drop, cond, option_to_list, Option, Some, None, slice_get, slice_index, get_or, refl, ap, sym, subst, ◌∙◌, arith, add-zero, flat_map, append-nil, length-append, le_antisymm, eq-eqb, eqb-true, pow_pos}
 use Rattle.std.proofs.lemmas.Bool.Decides.{nat_tests}
 use Rattle.std.proofs.lemmas.List.Elements.{filter-append, filter_map-append}
 use Rattle.std.proofs.lemmas.Option.{slice_get-get_or}
-use Rattle.std.specs.List.{AllByRecursion as Each, list_any, list_all, cons_option}
+use Rattle.std.specs.List.{AllByRecursion as Each, list_any, cons_option}
 use Rattle.std.specs.Option.{option_map_or}
 use Rattle.ap_bits.specs.declared.card.Card.{Card}
-use Rattle.ap_desc.specs.Clean.{FitsCards, IsClean, HasDesignFault}
-use Rattle.ap_desc.specs.Designs.{IsInstr, IsRight, arg_width, local_width, width_at}
-use Rattle.ap_desc.specs.Ports.{micros_in}
+use Rattle.ap_desc.specs.Clean.{FitsCards}
+use Rattle.ap_desc.specs.Designs.{IsInstr, IsRight, local_width, width_at}
 use Rattle.ap_desc.specs.Sound.{IsTyped, are_lines_typed}
 use Rattle.ap_desc.specs.StageFaults.{has_stage_order, has_stage_zero, steps_back}
 use Rattle.ap_desc.specs.Widths.{has_widths}
@@ -22,7 +21,7 @@ use Rattle.ap_desc.specs.declared.design.Instr.{Instr}
 use Rattle.ap_desc.specs.declared.design.Micro.{Micro}
 use Rattle.ap_desc.specs.declared.fault.Fault.TheVariants as f
 use Rattle.ap_model.specs.Fire.{Sight, act_value, arg_value, bits_of_arg, fields_of, instr_of, is_match, lines_in, locals_after}
-use Rattle.ap_model.specs.Fitting.{LocalsFit, LocalsStand, SightFits, WordStands, assigned_by, assigned_width, lines_before, width_of_act, IsGood, NeverFall, NoneInZero, GoesByLine, locals_after_line}
+use Rattle.ap_model.specs.Fitting.{LocalsFit, LocalsStand, assigned_width, width_of_act, IsGood, NeverFall, NoneInZero, GoesByLine, locals_after_line}
 use Rattle.ap_model.proofs.PlainWidths.{list_all_get}
 
 -- The lines of a clean design stand in the order of their stages, none of them in stage 0.

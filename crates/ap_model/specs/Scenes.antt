@@ -1,5 +1,4 @@
 -- What the plain program goes by in one cycle.
-use Rattle.std.specs.Prelude.{ℕ}
 use Rattle.ap_desc.specs.Clean.{FitsCards}
 use Rattle.ap_model.specs.declared.plain.scene.Scene.{Scene}
 use Rattle.ap_model.specs.Cycles.{Course}

@@ -10,3 +10,5 @@ mod stage;
 mod stalls;
 mod storages;
 mod values;
+
+pub use run::rows;

@@ -10,7 +10,7 @@ ghost use Rattle.ap_model.specs.DesignShape.{shape_of};
 ghost use Rattle.ap_model.specs.Fitting.{CountsWithin, FlightsFit, PortsFit, StateFits, StoragesFit};
 ghost use Rattle.ap_model.specs.Ports.{is_same_port};
 ghost use Rattle.ap_model.specs.Scenes.{SceneFits, course_of_scene};
-ghost use Rattle.ap_model.specs.ShownRows.{course_row, cycle_row, group_writes, shown_index, shown_write};
+ghost use Rattle.ap_model.specs.ShownRows.{course_row, cycle_row, group_writes, rows_of, shown_index, shown_write};
 ghost use Rattle.ap_model.specs.Stalls.{busy_from};
 ghost use Rattle.ap_model.specs.States.{start, start_storages};
 ghost use Rattle.ap_model.specs.declared.storage.PortWrite.{PortWrite};
@@ -209,4 +209,71 @@ fn course_row(alloc: Global, scene: &Scene) -> Result<Row, NoMemory>
         kill: scene.taken.is_some(),
         writes: shown,
     })
+}
+
+/// What a cycle shows, and the state after it.
+#[derive(Drop)]
+struct Shown {
+    row: Row,
+    state: State,
+}
+
+/// One cycle with these inputs.
+#[tactic(auto, using(crate::proofs::StepLemmas::few_stages, crate::proofs::StepLemmas::waits_within))]
+fn shown_cycle(
+    alloc: Global,
+    design: &Design,
+    cards: &[Card],
+    image: &Image,
+    inputs: &TraceLine,
+    state: &State,
+) -> Result<Shown, NoMemory>
+    requires design { FitsCards design.now cards.now }
+    requires image { ImageFitsShape image.now (shape_of design.now) }
+    requires ports { PortsFit design.now inputs.now.ports }
+    requires state { StateFits design.now state.now }
+    requires counts { CountsWithin (2 ^ 62) state.now }
+    ensures row { IfOk result (λ s. s.row ≡ cycle_row design.now cards.now inputs.now state.now) }
+    ensures state { IfOk result (λ s. s.state ≡ cycle design.now cards.now image.now inputs.now state.now) }
+    ensures fits { IfOk result (λ s. StateFits design.now s.state) }
+{
+    let busy = busy_stages(alloc, design, inputs, state)?;
+    let taken = taken_transfer(alloc, design, cards, inputs, state, &busy)?;
+    let scene = Scene {
+        design,
+        cards,
+        inputs,
+        state,
+        busy: &busy,
+        taken,
+    };
+    let row = course_row(alloc, &scene)?;
+    let next = after_course(alloc, &scene, image)?;
+    Ok(Shown { row, state: next })
+}
+
+/// The rows of the first `count` cycles that the machine of a design shows on an image and a trace. The design fits the cards, and
+/// the image and the trace fit the design.
+pub fn rows(
+    alloc: Global,
+    design: &Design,
+    cards: &[Card],
+    image: &Image,
+    trace: &Trace,
+    count: u32,
+) -> Result<Items<Row>, NoMemory>
+    requires design { FitsCards design.now cards.now }
+    requires image { ImageFitsShape image.now (shape_of design.now) }
+    requires trace { TraceFitsShape trace.now (shape_of design.now) }
+    ensures { IfOk result (λ list. list ≡ rows_of design.now cards.now image.now trace.now count) }
+{
+    let mut state = start(alloc, design, image)?;
+    let mut rows = Items::new(alloc);
+    for j in 0..count {
+        let inputs = inputs_at(alloc, design, trace, j as usize)?;
+        let shown = shown_cycle(alloc, design, cards, image, &inputs, &state)?;
+        rows.push(shown.row)?;
+        state = shown.state;
+    }
+    Ok(rows)
 }

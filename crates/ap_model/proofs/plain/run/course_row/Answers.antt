@@ -1,7 +1,5 @@
-use Rattle.std.proofs.Common.{List, ◌+◌, ◌<◌, ap, length, map, ◌∙◌, arith}
-use Rattle.ap_model.specs.Ports.{row_ports}
+use Rattle.std.proofs.Common.{◌<◌, length, ◌∙◌, arith}
 use Rattle.ap_model.specs.Scenes.{course_of_scene}
-use Rattle.ap_model.specs.declared.state.Entry.{Entry}
 use Rattle.ap_model.proofs.RunLemmas.{course_row_is, row_ports_few}
 use Rattle.ap_model.proofs.plain.run.course_row.Goals as goal
 

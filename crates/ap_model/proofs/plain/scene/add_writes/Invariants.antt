@@ -1,6 +1,4 @@
 use Rattle.std.proofs.Common.{◌≡◌, ◌++◌, map, take}
-use Rattle.ap_model.specs.declared.state.Entry.{Entry}
-use Rattle.ap_model.specs.declared.storage.PortWrite.{PortWrite}
 use Rattle.ap_model.specs.Cycles.{entry_of}
 use Rattle.ap_model.proofs.plain.scene.add_writes.Given as goal
 
