@@ -15,7 +15,7 @@ use Rattle.ap_model.specs.declared.state.Flight.{Flight}
 use Rattle.ap_model.specs.declared.state.InputRead.{InputRead}
 use Rattle.ap_model.specs.declared.storage.PortWrite.{PortWrite}
 use Rattle.ap_model.specs.declared.storage.Storages.{Storages}
-use Rattle.ap_desc.specs.Clean.{FitsCards}
+use Rattle.ap_model.specs.Runnable.{IsRunnable}
 use Rattle.ap_model.specs.Fire.{Sight, arg_value, bits_of_arg, fire, instr_done, instr_of, lines_done, lines_in, locals_after, ordered, read_of, target_of, where_guard, write_of}
 use Rattle.ap_model.specs.Fitting.{DoneFits, FlightFits, IsGood, LocalsFit, LocalsStand, PortsFit, SightFits, StoragesFit, WordStands, WritesFit, port_width}
 use Rattle.ap_model.specs.Ports.{is_same_port, write_ports}
@@ -24,7 +24,7 @@ use Rattle.ap_model.proofs.PlainWidths.{args_fit, faultless, not_false, or_false
 -- a design has few registers, files and memories
 pub few_parts : (sight : Sight) → SightFits sight → (length sight.design.regs ≤ 64) × (length sight.design.files ≤ 8) × (length sight.design.mems ≤ 4)
 few_parts sight fits =
-    let within = fits.design.clean.sound.within in
+    let within = fits.design.sound.within in
     (leb-true _ _ (and_parts _ _ within.regs).0, leb-true _ _ (and_parts _ _ within.files).0, leb-true _ _ (and_parts _ _ within.mems).0)
 
 -- the parts make the whole
@@ -126,7 +126,7 @@ lines_done_fits sight stage locals fits good locals_fit =
 
 -- what a line of a flight looks at fits
 pub sight_fits : (design : Design) (cards : List Card) (instr : Instr) (stage : ℕ) (flight : Flight) (storages : Storages) (ports : List ℕ)
-    → FitsCards design cards → StoragesFit design storages → PortsFit design ports → FlightFits design stage flight
+    → IsRunnable design cards → StoragesFit design storages → PortsFit design ports → FlightFits design stage flight
     → SightFits (record { design = design; cards = cards; instr = instr; word = flight.word; place = flight.place; storages = storages; input = λ line input. slice_index ports input })
 sight_fits design cards instr stage flight storages ports fits s p f = record { design = fits; word = f.word; place = f.place; storages = s; inputs = λ line input. p input }
 
@@ -141,7 +141,7 @@ none_stands design word stage locals at other e = cc
 
 -- what a flight with an instruction does
 pub fired_some : (design : Design) (cards : List Card) (instr : Instr) (stage : ℕ) (flight : Flight) (storages : Storages) (ports : List ℕ) (done : Done)
-    → FitsCards design cards → StoragesFit design storages → PortsFit design ports → FlightFits design stage flight → Some instr ≡ instr_of design flight.word → IsGood design instr
+    → IsRunnable design cards → StoragesFit design storages → PortsFit design ports → FlightFits design stage flight → Some instr ≡ instr_of design flight.word → IsGood design instr
     → done ≡ lines_done (record { design = design; cards = cards; instr = instr; word = flight.word; place = flight.place; storages = storages; input = λ line input. slice_index ports input }) flight.locals (lines_in stage instr)
     → LocalsStand design instr (stage + 1) done.locals
     → (done ≡ fire design cards stage flight.place flight.word flight.locals storages (λ line input. slice_index ports input)) × DoneFits design flight.word stage done

@@ -3,7 +3,7 @@ use Rattle.std.proofs.Common.{◌≡◌, ℕ, zero, suc, ◌+◌, ◌-◌, ◌�
 use Rattle.std.proofs.lemmas.Bool.{and_parts}
 use Rattle.std.specs.List.{AllByRecursion as Each, list_all}
 use Rattle.ap_bits.specs.declared.card.Card.{Card}
-use Rattle.ap_desc.specs.Clean.{FitsCards}
+use Rattle.ap_model.specs.Runnable.{IsRunnable, NoneInZero}
 use Rattle.ap_desc.specs.Designs.{is_between, is_reg_within, width_at}
 use Rattle.ap_desc.specs.Widths.{file_width, mem_width, reg_width}
 use Rattle.ap_desc.specs.declared.design.Design.{Design}
@@ -105,10 +105,10 @@ mems_start (ws ∷ words) [] fits mem i = absurd fits
 mems_start (ws ∷ words) (m ∷ mems) fits zero i = words_fit_at ws m.width i fits.0.each
 mems_start (ws ∷ words) (m ∷ mems) fits (suc mem) i = mems_start words mems fits.1 mem i
 
-pub start_fits : (design : Design) (cards : List Card) (image : Image) → FitsCards design cards → ImageFitsShape image (shape_of design) → StoragesFit design (start_storages design image)
+pub start_fits : (design : Design) (cards : List Card) (image : Image) → IsRunnable design cards → ImageFitsShape image (shape_of design) → StoragesFit design (start_storages design image)
 unfolding start_storages
 start_fits design cards image fits shaped = record {
-  regs = regs_start design.regs (and_parts _ _ fits.clean.sound.within.regs).1;
+  regs = regs_start design.regs (and_parts _ _ fits.sound.within.regs).1;
   cells = λ file index. cells_start design.files file index (file_width design file);
   words = mems_start image.mems design.mems shaped.mems;
 }
@@ -140,7 +140,7 @@ inputs_fit design trace j fits = values_fit_at (inputs_at design trace j).ports 
 
 -- The word that is fetched.
 
-first_stands : (design : Design) (cards : List Card) (word : ℕ) → FitsCards design cards → WordStands design word 1 []
+first_stands : (design : Design) (cards : List Card) (word : ℕ) → IsRunnable design cards → WordStands design word 1 []
 first_stands design cards word fits instr at =
     let good = word_is_good design cards word instr fits at in
     let none : lines_before 1 instr ≡ [] = none_at_first instr.micros good.later in
@@ -149,9 +149,9 @@ first_stands design cards word fits instr at =
 word_bits : (design : Design) → IsTrue (is_between 8 64 design.word) → design.word ≤ 64
 word_bits design h = leb-true _ _ (and_parts _ _ h).1
 
-pub fetched_fits : (design : Design) (cards : List Card) (image : Image) (state : State) → FitsCards design cards → ImageFitsShape image (shape_of design) → state.pc < 2 ^ design.address → FlightFits design 1 (fetched image state)
+pub fetched_fits : (design : Design) (cards : List Card) (image : Image) (state : State) → IsRunnable design cards → ImageFitsShape image (shape_of design) → state.pc < 2 ^ design.address → FlightFits design 1 (fetched image state)
 fetched_fits design cards image state fits shaped place = record {
-  word = lt_of_lt_of_le (words_fit_at image.code design.word state.pc shaped.code.each) (pow_mono (word_bits design fits.clean.sound.within.word));
+  word = lt_of_lt_of_le (words_fit_at image.code design.word state.pc shaped.code.each) (pow_mono (word_bits design fits.sound.within.word));
   place = place;
   locals = first_stands design cards (slice_index image.code state.pc) fits;
 }
@@ -177,9 +177,9 @@ branch_within : (design : Design) → IsTrue (is_between 1 (design.stages - 1) d
 branch_within design h = leb-true _ _ (and_parts _ _ h).0
 
 -- the flight in the transfer stage
-pub transfer_fits : (design : Design) (cards : List Card) (state : State) (flight : Flight) → FitsCards design cards → StateFits design state → Some flight ≡ flight_at state design.branch → FlightFits design design.branch flight
+pub transfer_fits : (design : Design) (cards : List Card) (state : State) (flight : Flight) → IsRunnable design cards → StateFits design state → Some flight ≡ flight_at state design.branch → FlightFits design design.branch flight
 transfer_fits design cards state flight fits stands at =
-    let low = branch_within design fits.clean.sound.within.branch in
+    let low = branch_within design fits.sound.within.branch in
     let here : 1 + (design.branch - 1) ≡ design.branch = omega (arith, low) in
     subst (λ s. FlightFits design s flight) here (flight_at_fits design state.flights 1 (design.branch - 1) flight stands.flights (at_place state.flights (design.branch - 1) flight at))
 

@@ -92,7 +92,7 @@ list_all_get test (y ∷ ys) (suc i) x all at = list_all_get test ys i x (and_pa
 -- the width of a declared unit
 pub unit_within : (sight : Sight) (i : ℕ) (u : Resource) → SightFits sight → slice_get sight.design.units i ≡ Some u → (1 ≤ u.width) × (u.width ≤ 64)
 unit_within sight i u fits at =
-    let units = (and_parts _ _ fits.design.clean.sound.within.units).1 in
+    let units = (and_parts _ _ fits.design.sound.within.units).1 in
     let is = and_parts _ _ (list_all_get (λ (x : Resource). is_width x.width) sight.design.units i u units at) in
     (leb-true _ _ is.0, leb-true _ _ is.1)
 
@@ -102,7 +102,7 @@ address_within design h = leb-true _ _ (and_parts _ _ h).1
 -- a place is far below the end of 64 bits
 pub place_within : (sight : Sight) → SightFits sight → sight.place < 2 ^ 63
 place_within sight fits =
-    let address = address_within sight.design fits.design.clean.sound.within.address in
+    let address = address_within sight.design fits.design.sound.within.address in
     let far : sight.design.address ≤ 63 = omega arith in
     lt_of_lt_of_le fits.place (pow_mono far)
 

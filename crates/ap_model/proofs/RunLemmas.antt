@@ -5,7 +5,7 @@ use Rattle.std.proofs.lemmas.List.{length-reverse, map-append}
 use Rattle.std.specs.List.{list_all, range_with_len}
 use Rattle.std.specs.Option.{option_map_or}
 use Rattle.ap_bits.specs.declared.card.Card.{Card}
-use Rattle.ap_desc.specs.Clean.{FitsCards}
+use Rattle.ap_model.specs.Runnable.{IsRunnable}
 use Rattle.ap_desc.specs.Designs.{is_file_within}
 use Rattle.ap_desc.specs.declared.design.Design.{Design}
 use Rattle.ap_desc.specs.declared.design.File.{File}
@@ -91,10 +91,10 @@ file_groups_few design file of_stage reversed stages =
     let groups = flat_few (λ stage. filter (is_used_in design stage) (file_ports design file)) 2 (stages_from_last design) of_stage in
     omega (arith, groups, reversed, stages)
 
-pub row_ports_few : (design : Design) (cards : List Card) → FitsCards design cards → length (row_ports design) < 1000
+pub row_ports_few : (design : Design) (cards : List Card) → IsRunnable design cards → length (row_ports design) < 1000
 unfolding write_groups
 row_ports_few design cards fits =
-    let within = fits.clean.sound.within in
+    let within = fits.sound.within in
     let regs : length design.regs ≤ 64 = leb-true _ _ (and_parts _ _ within.regs).0 in
     let files : length design.files ≤ 8 = leb-true _ _ (and_parts _ _ within.files).0 in
     let mems : length design.mems ≤ 4 = leb-true _ _ (and_parts _ _ within.mems).0 in

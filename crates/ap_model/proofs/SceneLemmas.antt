@@ -83,5 +83,5 @@ writes_of_fit design (e ∷ entries) fits = (fits.0, writes_of_fit design entrie
 -- a design has few registers, files and memories
 pub scene_parts : (scene : Scene) → SceneFits scene → (length scene.design.now.regs ≤ 64) × (length scene.design.now.files ≤ 8) × (length scene.design.now.mems ≤ 4)
 scene_parts scene fits =
-    let within = fits.design.clean.sound.within in
+    let within = fits.design.sound.within in
     (leb-true _ _ (and_parts _ _ within.regs).0, leb-true _ _ (and_parts _ _ within.files).0, leb-true _ _ (and_parts _ _ within.mems).0)

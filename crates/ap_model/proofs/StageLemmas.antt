@@ -21,7 +21,8 @@ use Rattle.ap_desc.specs.declared.design.Instr.{Instr}
 use Rattle.ap_desc.specs.declared.design.Micro.{Micro}
 use Rattle.ap_desc.specs.declared.fault.Fault.TheVariants as f
 use Rattle.ap_model.specs.Fire.{Sight, act_value, arg_value, bits_of_arg, fields_of, instr_of, is_match, lines_in, locals_after}
-use Rattle.ap_model.specs.Fitting.{LocalsFit, LocalsStand, assigned_width, width_of_act, IsGood, NeverFall, NoneInZero, GoesByLine, locals_after_line}
+use Rattle.ap_model.specs.Runnable.{IsRunnable, NeverFall, NoneInZero}
+use Rattle.ap_model.specs.Fitting.{LocalsFit, LocalsStand, assigned_width, width_of_act, IsGood, GoesByLine, locals_after_line}
 use Rattle.ap_model.proofs.PlainWidths.{list_all_get}
 
 -- The lines of a clean design stand in the order of their stages, none of them in stage 0.
@@ -88,20 +89,24 @@ of_format : (o : Option Format) (Q : List Field → Type 0) → IsSomeAnd o (λ 
 of_format None Q h = absurd h
 of_format (Some format) Q h = h
 
-pub word_is_good : (design : Design) (cards : List Card) (word : ℕ) (instr : Instr) → FitsCards design cards → instr_of design word ≡ Some instr → IsGood design instr
+pub word_is_good : (design : Design) (cards : List Card) (word : ℕ) (instr : Instr) → IsRunnable design cards → instr_of design word ≡ Some instr → IsGood design instr
 unfolding instr_of
 word_is_good design cards word instr fits at =
-    let clean = fits.clean in
-    let right = found (IsRight design) (is_match word) design.instrs instr clean.sound.instrs at in
-    let typed = found (IsTyped design) (is_match word) design.instrs instr clean.sound.typed at in
-    let falls : (line : ℕ) → has_stage_order design line ≡ false = λ line. if_not _ (clean.faultless f.StageOrder line) in
-    let zeros : (line : ℕ) → has_stage_zero design line ≡ false = λ line. if_not _ (clean.faultless f.StageZero line) in
+    let right = found (IsRight design) (is_match word) design.instrs instr fits.sound.instrs at in
+    let typed = found (IsTyped design) (is_match word) design.instrs instr fits.sound.typed at in
     record {
       right = of_format (slice_get design.formats instr.format) (λ fields. IsInstr design fields instr) right;
       typed = of_format (slice_get design.formats instr.format) (λ fields. IsTrue (are_lines_typed design instr fields)) typed;
-      order = found (λ (i : Instr). NeverFall i.micros) (is_match word) design.instrs instr (each_never_falls design.instrs falls) at;
-      later = found (λ (i : Instr). NoneInZero i.micros) (is_match word) design.instrs instr (each_none_in_zero design.instrs zeros) at;
+      order = found (λ (i : Instr). NeverFall i.micros) (is_match word) design.instrs instr fits.order at;
+      later = found (λ (i : Instr). NoneInZero i.micros) (is_match word) design.instrs instr fits.later at;
     }
+
+-- a design that is clean and of the cards can be run
+pub clean_is_runnable : (design : Design) (cards : List Card) → FitsCards design cards → IsRunnable design cards
+clean_is_runnable design cards fits =
+    let falls : (line : ℕ) → has_stage_order design line ≡ false = λ line. if_not (has_stage_order design line) (fits.clean.faultless f.StageOrder line) in
+    let zeros : (line : ℕ) → has_stage_zero design line ≡ false = λ line. if_not (has_stage_zero design line) (fits.clean.faultless f.StageZero line) in
+    record { sound = fits.clean.sound; of_cards = fits.of_cards; order = each_never_falls design.instrs falls; later = each_none_in_zero design.instrs zeros }
 
 -- a line of a good instruction has its widths
 pub line_typed : (sight : Sight) (i : ℕ) (m : Micro) → IsGood sight.design sight.instr → slice_get sight.instr.micros i ≡ Some m → IsTrue (has_widths sight.design (bits_of_arg sight) m.act)

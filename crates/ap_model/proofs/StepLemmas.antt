@@ -3,7 +3,7 @@ use Rattle.std.proofs.Common.{◌≡◌, ℕ, zero, suc, ◌+◌, ◌-◌, ◌�
 use Rattle.std.proofs.lemmas.Bool.{and_parts}
 use Rattle.std.specs.List.{AllByRecursion as Each, range_with_len}
 use Rattle.ap_bits.specs.declared.card.Card.{Card}
-use Rattle.ap_desc.specs.Clean.{FitsCards}
+use Rattle.ap_model.specs.Runnable.{IsRunnable}
 use Rattle.ap_desc.specs.declared.design.Design.{Design}
 use Rattle.ap_image.specs.FitsShape.{ImageFitsShape}
 use Rattle.ap_image.specs.declared.image.Image.{Image}
@@ -39,7 +39,7 @@ next_pc_fits design state course pc taken = go (course.held 0) course.taken take
     go false None h = mod-lt (state.pc + 1) (pow_pos design.address)
     go false (Some t) h = h
 
-pub entering_fits : (design : Design) (cards : List Card) (image : Image) (state : State) (course : Course) → FitsCards design cards → ImageFitsShape image (shape_of design) → state.pc < 2 ^ design.address
+pub entering_fits : (design : Design) (cards : List Card) (image : Image) (state : State) (course : Course) → IsRunnable design cards → ImageFitsShape image (shape_of design) → state.pc < 2 ^ design.address
     → IfSome (entering design image state course) (FlightFits design 1)
 entering_fits design cards image state course fits shaped pc = go (course.held 0 || is_killed design course 0)
   where
@@ -64,9 +64,9 @@ after_fits design cards image inputs state next course fits taken same flights s
 }
 
 -- a design has few stages
-pub few_stages : (design : Design) (cards : List Card) (state : State) → FitsCards design cards → StateFits design state → length state.flights < 50
+pub few_stages : (design : Design) (cards : List Card) (state : State) → IsRunnable design cards → StateFits design state → length state.flights < 50
 few_stages design cards state fits stands =
-    let stages : design.stages ≤ 8 = leb-true _ _ (and_parts _ _ fits.clean.sound.within.stages).1 in
+    let stages : design.stages ≤ 8 = leb-true _ _ (and_parts _ _ fits.sound.within.stages).1 in
     omega (arith, stands.count, stages)
 
 waits_grow : (low high : ℕ) (flights : List (Option Flight)) → low ≤ high → WaitsWithin low flights → WaitsWithin high flights
@@ -148,7 +148,7 @@ length_empty : (n : ℕ) → length {A = Option Flight} (replicate n None) ≡ n
 length_empty zero = refl
 length_empty (suc n) = ap suc (length_empty n)
 
-pub start_state_fits : (design : Design) (cards : List Card) (image : Image) → FitsCards design cards → ImageFitsShape image (shape_of design) → StateFits design (start design image)
+pub start_state_fits : (design : Design) (cards : List Card) (image : Image) → IsRunnable design cards → ImageFitsShape image (shape_of design) → StateFits design (start design image)
 unfolding start
 start_state_fits design cards image fits shaped = record {
   pc = pow_pos design.address;

@@ -1,7 +1,7 @@
 -- Values that fit their widths: those of locals, of storages, and of all that a line looks at.
 use Rattle.std.specs.List.{AllByRecursion as Each}
 use Rattle.std.specs.Prelude.{ℕ, ◌+◌, ◌-◌, ◌==◌, ◌++◌, if◌then◌else◌, IfSome, option_to_list, ◌<◌, ◌^◌, ◌≡◌, nat_lt, ◌≤◌, IsTrue, [], ◌∷◌, List, length, filter, filter_map, Option, Some, slice_index, unwrap_or}
-use Rattle.ap_desc.specs.Clean.{FitsCards}
+use Rattle.ap_model.specs.Runnable.{IsRunnable, NeverFall, NoneInZero}
 use Rattle.ap_desc.specs.Designs.{IsInstr, local_width, width_at}
 use Rattle.ap_desc.specs.Sound.{are_lines_typed}
 use Rattle.ap_desc.specs.Widths.{reg_width, file_width, mem_width}
@@ -37,7 +37,7 @@ input_width design input = width_at (λ (p : InPort). p.width) design.inputs inp
 
 -- all that a line looks at fits, locals aside
 pub record SightFits (sight : Sight) : Type 0 where
-  pub design : FitsCards sight.design sight.cards
+  pub design : IsRunnable sight.design sight.cards
   pub word : sight.word < 2 ^ 64
   pub place : sight.place < 2 ^ sight.design.address
   pub storages : StoragesFit sight.design sight.storages
@@ -107,17 +107,7 @@ pub record FlightFits (design : Design) (stage : ℕ) (flight : Flight) : Type 0
 abbrev pub PortsFit : Design → List ℕ → Type 0
 PortsFit design ports = (input : ℕ) → slice_index ports input < 2 ^ input_width design input
 
--- the stages of the lines never fall
-abbrev pub NeverFall : List Micro → Type 0
-NeverFall [] = Unit {0}
-NeverFall (m ∷ []) = Unit {0}
-NeverFall (m ∷ n ∷ micros) = (m.stage ≤ n.stage) × NeverFall (n ∷ micros)
-
--- no line is in stage 0
-abbrev pub NoneInZero : List Micro → Type 0
-NoneInZero micros = Each (λ (m : Micro). 1 ≤ m.stage) micros
-
--- an instruction of a clean design
+-- an instruction of a design that can be run
 pub record IsGood (design : Design) (instr : Instr) : Type 0 where
   pub right : IsInstr design (fields_of design instr) instr
   pub typed : IsTrue (are_lines_typed design instr (fields_of design instr))

@@ -1,5 +1,5 @@
 -- What the plain program goes by in one cycle.
-use Rattle.ap_desc.specs.Clean.{FitsCards}
+use Rattle.ap_model.specs.Runnable.{IsRunnable}
 use Rattle.ap_model.specs.declared.plain.scene.Scene.{Scene}
 use Rattle.ap_model.specs.Cycles.{Course}
 use Rattle.ap_model.specs.Fitting.{PortsFit, StoragesFit}
@@ -11,6 +11,6 @@ course_of_scene scene = record { held = is_held_stage scene.design.now scene.bus
 
 -- what flights look at fits
 pub record SceneFits (scene : Scene) : Type 0 where
-  pub design : FitsCards scene.design.now scene.cards.now
+  pub design : IsRunnable scene.design.now scene.cards.now
   pub ports : PortsFit scene.design.now scene.inputs.now.ports
   pub storages : StoragesFit scene.design.now scene.state.now.storages

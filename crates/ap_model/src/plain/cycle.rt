@@ -1,6 +1,6 @@
 //! One cycle of the machine.
 ghost use Rattle.std.specs.Prelude.{◌≡◌, ◌++◌, ◌+◌, ◌≤◌, ◌<◌, ◌^◌, [], Some, IfOk, IfSome, if◌then◌else◌, filter, fold, is_some, length, map, max, nat_lt, option_copied};
-ghost use Rattle.ap_desc.specs.Clean.{FitsCards};
+ghost use Rattle.ap_model.specs.Runnable.{IsRunnable};
 ghost use Rattle.ap_image.specs.FitsShape.{ImageFitsShape};
 ghost use Rattle.ap_model.specs.Cycles.{after_course, course_of, cycle, cycle_entries, cycle_flights, cycle_passes, cycle_samples, entering, flight_at, kept, next_number, next_pc, taken_transfer, unkilled_numbers};
 ghost use Rattle.ap_model.specs.DesignShape.{shape_of};
@@ -65,7 +65,7 @@ pub(crate) fn taken_transfer(
     state: &State,
     busy: &[bool],
 ) -> Result<Option<u64>, NoMemory>
-    requires design { FitsCards design.now cards.now }
+    requires design { IsRunnable design.now cards.now }
     requires ports { PortsFit design.now inputs.now.ports }
     requires state { StateFits design.now state.now }
     requires busy { busy.now ≡ busy_from design.now inputs.now.wait 1 state.now.flights }

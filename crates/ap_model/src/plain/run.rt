@@ -1,6 +1,6 @@
 //! Cycle after cycle, from the start.
 ghost use Rattle.std.specs.Prelude.{◌≡◌, ◌++◌, ◌+◌, ◌-◌, ◌≤◌, ◌<◌, ◌^◌, [], None, IfOk, OnOk, option_copied, slice_get, filter, length, map, replicate};
-ghost use Rattle.ap_desc.specs.Clean.{FitsCards};
+ghost use Rattle.ap_model.specs.Runnable.{IsRunnable};
 ghost use Rattle.ap_desc.specs.declared.design.File.{File};
 ghost use Rattle.ap_desc.specs.declared.design.InPort.{InPort};
 ghost use Rattle.ap_desc.specs.declared.design.Reg.{Reg};
@@ -228,7 +228,7 @@ fn shown_cycle(
     inputs: &TraceLine,
     state: &State,
 ) -> Result<Shown, NoMemory>
-    requires design { FitsCards design.now cards.now }
+    requires design { IsRunnable design.now cards.now }
     requires image { ImageFitsShape image.now (shape_of design.now) }
     requires ports { PortsFit design.now inputs.now.ports }
     requires state { StateFits design.now state.now }
@@ -252,8 +252,9 @@ fn shown_cycle(
     Ok(Shown { row, state: next })
 }
 
-/// The rows of the first `count` cycles that the machine of a design shows on an image and a trace. The design fits the cards, and
-/// the image and the trace fit the design.
+/// The rows of the first `count` cycles that the machine of a design shows on an image and a trace. The design is sound, its units
+/// are of the cards, and the lines of each instruction stand in the order of their stages, from 1 on, as those of every design that
+/// fits the cards do. The image and the trace fit the design.
 pub fn rows(
     alloc: Global,
     design: &Design,
@@ -262,7 +263,7 @@ pub fn rows(
     trace: &Trace,
     count: u32,
 ) -> Result<Items<Row>, NoMemory>
-    requires design { FitsCards design.now cards.now }
+    requires design { IsRunnable design.now cards.now }
     requires image { ImageFitsShape image.now (shape_of design.now) }
     requires trace { TraceFitsShape trace.now (shape_of design.now) }
     ensures { IfOk result (λ list. list ≡ rows_of design.now cards.now image.now trace.now count) }

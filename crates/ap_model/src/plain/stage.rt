@@ -1,6 +1,6 @@
 //! What a stage does with a word.
 ghost use Rattle.std.specs.Prelude.{◌≡◌, ℕ, ◌+◌, ◌^◌, ◌<◌, IsTrue, IfOk, IfSome, OnOk, Option, Some, filter_map, option_copied, slice_index};
-ghost use Rattle.ap_desc.specs.Clean.{FitsCards};
+ghost use Rattle.ap_model.specs.Runnable.{IsRunnable};
 ghost use Rattle.ap_desc.specs.declared.design.Micro.{Micro};
 ghost use Rattle.ap_desc.specs.Widths.{has_widths};
 ghost use Rattle.ap_model.specs.Fire.{arg_value, bits_of_arg, fire, input_of, instr_of, lines_done, lines_in, locals_after, read_of, target_of, where_guard, write_of};
@@ -230,7 +230,7 @@ pub(crate) fn fire(
     storages: &Storages,
     ports: &[u64],
 ) -> Result<Done, NoMemory>
-    requires design { FitsCards design.now cards.now }
+    requires design { IsRunnable design.now cards.now }
     requires storages { StoragesFit design.now storages.now }
     requires ports { PortsFit design.now ports.now }
     requires flight { FlightFits design.now stage flight.now }
