@@ -147,10 +147,9 @@ same_samples : (design : Design) (cards : List Card) (inputs : TraceLine) (held 
 unfolding cycle_samples
 same_samples design cards inputs held state course = same_told _ held (λ stage flight. refl) 1 state.flights
 
-same_passes : (design : Design) (cards : List Card) (inputs : TraceLine) (held : ℕ) (state : State) (course : Course)
-    → cycle_passes design cards inputs (waiting_state held state) course ≡ cycle_passes design cards inputs state course
+same_passes : (design : Design) (held : ℕ) (state : State) (course : Course) → cycle_passes design (waiting_state held state) course ≡ cycle_passes design state course
 unfolding cycle_passes
-same_passes design cards inputs held state course = same_told _ held (λ stage flight. refl) 1 state.flights
+same_passes design held state course = same_told _ held (λ stage flight. refl) 1 state.flights
 
 same_next : (design : Design) (held : ℕ) (state : State) (course : Course) → next_number design (waiting_state held state) course ≡ next_number design state course
 same_next design held state course =
@@ -165,7 +164,7 @@ step_free design cards image inputs held state taken =
     let course = course_by false taken in
     let entries = same_entries design cards inputs held state course in
     let samples = same_samples design cards inputs held state course in
-    let passes = same_passes design cards inputs held state course in
+    let passes = same_passes design held state course in
     let next = same_next design held state course in
     let coming = entering design image state course in
     let flights = same_flights design cards inputs held state taken 1 coming state.flights
@@ -190,9 +189,9 @@ no_samples : (design : Design) (cards : List Card) (inputs : TraceLine) (state :
 unfolding cycle_samples
 no_samples design cards inputs state taken = nothing_told _ (λ stage flight. refl) 1 state.flights
 
-no_passes : (design : Design) (cards : List Card) (inputs : TraceLine) (state : State) (taken : Option ℕ) → cycle_passes design cards inputs state (course_by true taken) ≡ []
+no_passes : (design : Design) (state : State) (taken : Option ℕ) → cycle_passes design state (course_by true taken) ≡ []
 unfolding cycle_passes
-no_passes design cards inputs state taken = nothing_told _ (λ stage flight. refl) 1 state.flights
+no_passes design state taken = nothing_told _ (λ stage flight. refl) 1 state.flights
 
 staying_flights : (design : Design) (cards : List Card) (inputs : TraceLine) (held : ℕ) (state : State) (taken : Option ℕ) (stage : ℕ) (coming : Option Flight) (flights : List (Option Flight))
     → flights_from design cards inputs (waiting_state held state) (course_by true taken) stage coming (all_waiting held flights) ≡ all_waiting (held + 1) flights
@@ -207,7 +206,7 @@ unfolding after_course cycle_flights with_writes
 step_stalled design cards image inputs held state taken =
     let entries = no_entries design cards inputs (waiting_state held state) taken in
     let samples = no_samples design cards inputs (waiting_state held state) taken in
-    let passes = no_passes design cards inputs (waiting_state held state) taken in
+    let passes = no_passes design (waiting_state held state) taken in
     let log = ap (λ xs. state.log ++ xs) entries ∙ append-nil state.log in
     let sampled = ap (λ xs. state.sampled ++ xs) samples ∙ append-nil state.sampled in
     let passed = ap (λ xs. state.passes ++ xs) passes ∙ append-nil state.passes in

@@ -1,4 +1,11 @@
 pub mod CountedLaws
+pub mod DoneLemmas
+pub mod MachineFits
 pub mod PlainWidths
+pub mod PortLists
+pub mod RunLemmas
+pub mod SceneLemmas
 pub mod StageLemmas
+pub mod StepLemmas
+pub mod StorageLemmas
 pub mod Worked

@@ -1,15 +1,13 @@
 -- What a line's widths say of its operands, as numbers; and values that fit.
-use Rattle.std.proofs.Common.{◌≡◌, ℕ, zero, suc, ◌+◌, ◌-◌, ◌*◌, ◌/◌, ◌%◌, ◌^◌, ◌<◌, ◌≤◌, ◌==◌, ◌&&◌, ◌||◌, nat_le, nat_lt, not, Bool, true, false, IsTrue, List, [], ◌∷◌, ◌++◌, if◌then◌else◌, length, Option, Some, None, slice_get, slice_index, slice_index_or, bit_and, refl, ap, sym, subst, ◌∙◌, cond, arith, lit<, mod-lt, mul-le-mul_right, suc-mul, mod-eq_of_lt, pow_pos, pow_mono, lt_of_lt_of_le, leb-true, ltb-true, ltb-false, eqb-true}
+use Rattle.std.proofs.Common.{◌≡◌, ℕ, zero, suc, ◌+◌, ◌*◌, ◌/◌, ◌%◌, ◌^◌, ◌<◌, ◌≤◌, ◌&&◌, ◌||◌, not, Bool, true, false, IsTrue, List, [], ◌∷◌, Option, Some, None, slice_get, refl, sym, subst, arith, lit<, mod-lt, mul-le-mul_right, suc-mul, mod-eq_of_lt, pow_pos, pow_mono, lt_of_lt_of_le, leb-true, ltb-true, ltb-false, eqb-true}
 use Rattle.std.proofs.lemmas.Bool.{and_parts}
-use Rattle.std.proofs.lemmas.Bool.Decides.{nat_tests}
-use Rattle.std.proofs.lemmas.Nat.{and_mask, pow-add}
+use Rattle.std.proofs.lemmas.Nat.{pow-add}
 use Rattle.std.proofs.Math.Nat.{div-eq_of_lt}
 use Rattle.std.proofs.Math.Pow.{shl_exact}
 use Rattle.std.specs.List.{list_all}
 use Rattle.std.specs.Option.{option_map_or}
 use Rattle.ap_bits.specs.Operations.{sign_extended}
-use Rattle.ap_desc.specs.Clean.{FitsCards}
-use Rattle.ap_desc.specs.Designs.{arg_width, field_value, is_width, is_between, local_width, width_at}
+use Rattle.ap_desc.specs.Designs.{field_value, is_width, is_between}
 use Rattle.ap_desc.specs.Widths.{differs, has_bad_width, has_widths, is_bad_slice, is_no_target, is_not_one_bit, is_wide_constant, unit_width}
 use Rattle.ap_desc.specs.declared.design.Design.{Design}
 use Rattle.ap_desc.specs.declared.design.Unit.{Unit as Resource}
@@ -41,16 +39,16 @@ not_true : (b : Bool) → not b ≡ true → b ≡ false
 not_true true e = cc
 not_true false e = refl
 
-not_false : (b : Bool) → not b ≡ false → b ≡ true
+pub not_false : (b : Bool) → not b ≡ false → b ≡ true
 not_false true e = refl
 not_false false e = cc
 
-or_false : (a b : Bool) → (a || b) ≡ false → (a ≡ false) × (b ≡ false)
+pub or_false : (a b : Bool) → (a || b) ≡ false → (a ≡ false) × (b ≡ false)
 or_false true b e = cc
 or_false false b e = (refl, e)
 
 -- what holds of a line that has its widths
-faultless : (design : Design) (width : Arg → ℕ) (a : Act) → IsTrue (has_widths design width a)
+pub faultless : (design : Design) (width : Arg → ℕ) (a : Act) → IsTrue (has_widths design width a)
     → (has_bad_width width a ≡ false) × (differs design width a ≡ false) × (is_bad_slice width a ≡ false) × (is_wide_constant a ≡ false) × (is_not_one_bit width a ≡ false) × (is_no_target design width a ≡ false)
 faultless design width a h =
     let parts = six (not (has_bad_width width a)) (not (differs design width a)) (not (is_bad_slice width a)) (not (is_wide_constant a)) (not (is_not_one_bit width a)) (not (is_no_target design width a)) h in
@@ -94,17 +92,17 @@ list_all_get test (y ∷ ys) (suc i) x all at = list_all_get test ys i x (and_pa
 -- the width of a declared unit
 pub unit_within : (sight : Sight) (i : ℕ) (u : Resource) → SightFits sight → slice_get sight.design.units i ≡ Some u → (1 ≤ u.width) × (u.width ≤ 64)
 unit_within sight i u fits at =
-    let units = (and_parts _ _ fits.design.clean.sound.within.units).1 in
+    let units = (and_parts _ _ fits.design.sound.within.units).1 in
     let is = and_parts _ _ (list_all_get (λ (x : Resource). is_width x.width) sight.design.units i u units at) in
     (leb-true _ _ is.0, leb-true _ _ is.1)
 
-address_within : (design : Design) → IsTrue (is_between 4 16 design.address) → design.address ≤ 16
+pub address_within : (design : Design) → IsTrue (is_between 4 16 design.address) → design.address ≤ 16
 address_within design h = leb-true _ _ (and_parts _ _ h).1
 
 -- a place is far below the end of 64 bits
 pub place_within : (sight : Sight) → SightFits sight → sight.place < 2 ^ 63
 place_within sight fits =
-    let address = address_within sight.design fits.design.clean.sound.within.address in
+    let address = address_within sight.design fits.design.sound.within.address in
     let far : sight.design.address ≤ 63 = omega arith in
     lt_of_lt_of_le fits.place (pow_mono far)
 

@@ -1,13 +1,13 @@
 -- The locals of an instruction, stage by stage: how many there are when it comes to a stage, and which width the next one has.
-use Rattle.std.proofs.Common.{◌≡◌, ℕ, zero, suc, ◌+◌, ◌-◌, ◌^◌, ◌<◌, ◌≤◌, ◌==◌, ◌&&◌, ◌||◌, nat_lt, not, Bool, true, false, IsTrue, IsSomeAnd, IfSome, if◌then◌else◌, List, [], ◌∷◌, ◌++◌, length, filter, filter_map, find, take, drop, cond, option_to_list, Option, Some, None, slice_get, slice_index, get_or, unwrap_or, refl, ap, sym, subst, ◌∙◌, arith, add-one, add-zero, zero-add, flat_map, append_assoc, append-nil, length-append, eq-or-lt_of_le, inl, inr, eq-eqb, eqb-true, ltb-true, ltb-false, lt-ltb, pow_pos}
+use Rattle.std.proofs.Common.{◌≡◌, ℕ, zero, suc, ◌+◌, ◌^◌, ◌<◌, ◌≤◌, ◌==◌, ◌&&◌, ◌||◌, nat_lt, not, Bool, true, false, IsTrue, IsSomeAnd, IfSome, if◌then◌else◌, List, [], ◌∷◌, ◌++◌, length, filter, filter_map, find, take, drop, cond, option_to_list, Option, Some, None, slice_get, slice_index, get_or, refl, ap, sym, subst, ◌∙◌, arith, add-zero, flat_map, append-nil, length-append, le_antisymm, eq-eqb, eqb-true, pow_pos}
 use Rattle.std.proofs.lemmas.Bool.Decides.{nat_tests}
 use Rattle.std.proofs.lemmas.List.Elements.{filter-append, filter_map-append}
-use Rattle.std.specs.List.{AllByRecursion as Each, list_any, list_all, cons_option}
+use Rattle.std.proofs.lemmas.Option.{slice_get-get_or}
+use Rattle.std.specs.List.{AllByRecursion as Each, list_any, cons_option}
 use Rattle.std.specs.Option.{option_map_or}
 use Rattle.ap_bits.specs.declared.card.Card.{Card}
-use Rattle.ap_desc.specs.Clean.{FitsCards, IsClean, HasDesignFault}
-use Rattle.ap_desc.specs.Designs.{IsInstr, IsRight, arg_width, local_width, width_at}
-use Rattle.ap_desc.specs.Ports.{micros_in}
+use Rattle.ap_desc.specs.Clean.{FitsCards}
+use Rattle.ap_desc.specs.Designs.{IsInstr, IsRight, local_width, width_at}
 use Rattle.ap_desc.specs.Sound.{IsTyped, are_lines_typed}
 use Rattle.ap_desc.specs.StageFaults.{has_stage_order, has_stage_zero, steps_back}
 use Rattle.ap_desc.specs.Widths.{has_widths}
@@ -21,15 +21,11 @@ use Rattle.ap_desc.specs.declared.design.Instr.{Instr}
 use Rattle.ap_desc.specs.declared.design.Micro.{Micro}
 use Rattle.ap_desc.specs.declared.fault.Fault.TheVariants as f
 use Rattle.ap_model.specs.Fire.{Sight, act_value, arg_value, bits_of_arg, fields_of, instr_of, is_match, lines_in, locals_after}
-use Rattle.ap_model.specs.Fitting.{LocalsFit, LocalsStand, SightFits, WordStands, assigned_by, assigned_width, lines_before, width_of_act, GoesByLine, locals_after_line}
+use Rattle.ap_model.specs.Runnable.{IsRunnable, NeverFall, NoneInZero}
+use Rattle.ap_model.specs.Fitting.{LocalsFit, LocalsStand, assigned_width, width_of_act, IsGood, GoesByLine, locals_after_line}
 use Rattle.ap_model.proofs.PlainWidths.{list_all_get}
 
 -- The lines of a clean design stand in the order of their stages, none of them in stage 0.
-
-abbrev pub NeverFall : List Micro → Type 0
-NeverFall [] = Unit {0}
-NeverFall (m ∷ []) = Unit {0}
-NeverFall (m ∷ n ∷ micros) = (m.stage ≤ n.stage) × NeverFall (n ∷ micros)
 
 not_below : (a b : ℕ) (rest : Bool) → ((nat_lt b a && true) || rest) ≡ false → a ≤ b
 not_below a b rest e = grind (arith, nat_tests)
@@ -56,10 +52,6 @@ none_of_any test x xs e = or_parts _ _ e
 each_never_falls : (instrs : List Instr) → ((line : ℕ) → list_any (λ (i : Instr). steps_back i.micros line) instrs ≡ false) → Each (λ (i : Instr). NeverFall i.micros) instrs
 each_never_falls [] none = tt
 each_never_falls (i ∷ instrs) none = (never_fall i.micros (λ line. (or_parts _ _ (none line)).0), each_never_falls instrs (λ line. (or_parts _ _ (none line)).1))
-
--- no line is in stage 0
-abbrev pub NoneInZero : List Micro → Type 0
-NoneInZero micros = Each (λ (m : Micro). 1 ≤ m.stage) micros
 
 not_zero : (a : ℕ) (rest : Bool) → (((a == 0) && true) || rest) ≡ false → 1 ≤ a
 not_zero a rest e = grind (arith, nat_tests)
@@ -93,31 +85,28 @@ found {X} P test (y ∷ ys) x each at = go (test y) (found P test ys x each.1) a
     go true later e = let same : y ≡ x = cc in subst P same each.0
     go false later e = later e
 
--- an instruction of a clean design
-pub record IsGood (design : Design) (instr : Instr) : Type 0 where
-  pub right : IsInstr design (fields_of design instr) instr
-  pub typed : IsTrue (are_lines_typed design instr (fields_of design instr))
-  pub order : NeverFall instr.micros
-  pub later : NoneInZero instr.micros
-
 of_format : (o : Option Format) (Q : List Field → Type 0) → IsSomeAnd o (λ (format : Format). Q format.fields) → Q (option_map_or (λ (format : Format). format.fields) o [])
 of_format None Q h = absurd h
 of_format (Some format) Q h = h
 
-pub word_is_good : (design : Design) (cards : List Card) (word : ℕ) (instr : Instr) → FitsCards design cards → instr_of design word ≡ Some instr → IsGood design instr
+pub word_is_good : (design : Design) (cards : List Card) (word : ℕ) (instr : Instr) → IsRunnable design cards → instr_of design word ≡ Some instr → IsGood design instr
 unfolding instr_of
 word_is_good design cards word instr fits at =
-    let clean = fits.clean in
-    let right = found (IsRight design) (is_match word) design.instrs instr clean.sound.instrs at in
-    let typed = found (IsTyped design) (is_match word) design.instrs instr clean.sound.typed at in
-    let falls : (line : ℕ) → has_stage_order design line ≡ false = λ line. if_not _ (clean.faultless f.StageOrder line) in
-    let zeros : (line : ℕ) → has_stage_zero design line ≡ false = λ line. if_not _ (clean.faultless f.StageZero line) in
+    let right = found (IsRight design) (is_match word) design.instrs instr fits.sound.instrs at in
+    let typed = found (IsTyped design) (is_match word) design.instrs instr fits.sound.typed at in
     record {
       right = of_format (slice_get design.formats instr.format) (λ fields. IsInstr design fields instr) right;
       typed = of_format (slice_get design.formats instr.format) (λ fields. IsTrue (are_lines_typed design instr fields)) typed;
-      order = found (λ (i : Instr). NeverFall i.micros) (is_match word) design.instrs instr (each_never_falls design.instrs falls) at;
-      later = found (λ (i : Instr). NoneInZero i.micros) (is_match word) design.instrs instr (each_none_in_zero design.instrs zeros) at;
+      order = found (λ (i : Instr). NeverFall i.micros) (is_match word) design.instrs instr fits.order at;
+      later = found (λ (i : Instr). NoneInZero i.micros) (is_match word) design.instrs instr fits.later at;
     }
+
+-- a design that is clean and of the cards can be run
+pub clean_is_runnable : (design : Design) (cards : List Card) → FitsCards design cards → IsRunnable design cards
+clean_is_runnable design cards fits =
+    let falls : (line : ℕ) → has_stage_order design line ≡ false = λ line. if_not (has_stage_order design line) (fits.clean.faultless f.StageOrder line) in
+    let zeros : (line : ℕ) → has_stage_zero design line ≡ false = λ line. if_not (has_stage_zero design line) (fits.clean.faultless f.StageZero line) in
+    record { sound = fits.clean.sound; of_cards = fits.of_cards; order = each_never_falls design.instrs falls; later = each_none_in_zero design.instrs zeros }
 
 -- a line of a good instruction has its widths
 pub line_typed : (sight : Sight) (i : ℕ) (m : Micro) → IsGood sight.design sight.instr → slice_get sight.instr.micros i ≡ Some m → IsTrue (has_widths sight.design (bits_of_arg sight) m.act)
@@ -215,20 +204,20 @@ counted_next width stage (m ∷ micros) =
     split_three width m (before stage micros) (within stage micros) (before (stage + 1) micros) (nat_lt m.stage stage) (m.stage == stage) (nat_lt m.stage (stage + 1))
     (below_next m.stage stage) (not_both m.stage stage) (counted_next width stage micros)
 
-none_at_first : (micros : List Micro) → NoneInZero micros → before 1 micros ≡ []
+pub none_at_first : (micros : List Micro) → NoneInZero micros → before 1 micros ≡ []
 none_at_first [] later = refl
 none_at_first (m ∷ micros) later = rw (isnt_below m.stage 1 later.0) (none_at_first micros later.1)
 
 -- Going through the lines of a stage.
 
-drop_next : {X : Type 0} (xs : List X) (i : ℕ) (x : X) → slice_get xs i ≡ Some x → drop i xs ≡ x ∷ drop (i + 1) xs
+pub drop_next : {X : Type 0} (xs : List X) (i : ℕ) (x : X) → slice_get xs i ≡ Some x → drop i xs ≡ x ∷ drop (i + 1) xs
 drop_next [] i x at = cc
 drop_next (y ∷ xs) zero x at = let same : y ≡ x = cc in ap (λ z. z ∷ xs) same
 drop_next (y ∷ xs) (suc i) x at =
     let more : suc (i + 1) ≡ suc i + 1 = omega arith in
     drop_next xs i x at ∙ ap (λ n. x ∷ drop n (y ∷ xs)) more
 
-take_next : {X : Type 0} (xs : List X) (i : ℕ) (x : X) → slice_get xs i ≡ Some x → take (i + 1) xs ≡ take i xs ++ x ∷ []
+pub take_next : {X : Type 0} (xs : List X) (i : ℕ) (x : X) → slice_get xs i ≡ Some x → take (i + 1) xs ≡ take i xs ++ x ∷ []
 take_next [] i x at = cc
 take_next (y ∷ xs) zero x at = let same : y ≡ x = cc in ap (λ z. z ∷ []) same
 take_next (y ∷ xs) (suc i) x at =
@@ -371,3 +360,42 @@ reached_all sight stage start locals reached =
     take_all_of : (xs : List Micro) → take (length xs) xs ≡ xs
     take_all_of [] = refl
     take_all_of (x ∷ xs) = ap (λ rest. x ∷ rest) (take_all_of xs)
+
+-- One line, as the program goes by it.
+
+pub goes_push : (sight : Sight) (stage : ℕ) (micro : Micro) (old new : List ℕ) (v : ℕ) → micro.stage ≡ stage → Some v ≡ act_value sight (arg_value sight old) micro.line micro.act → v < 2 ^ width_of_act sight micro.act
+    → new ≡ old ++ v ∷ [] → GoesByLine sight stage micro old new
+goes_push sight stage micro old new v here value fits more = record {
+  value = more ∙ ap (λ o. old ++ option_to_list o) value ∙ ap (λ b. if b then old ++ option_to_list (act_value sight (arg_value sight old) micro.line micro.act) else old) (sym (eq-eqb micro.stage stage here));
+  fits = subst (λ o. IfSome o (λ v. v < 2 ^ width_of_act sight micro.act)) value fits;
+}
+
+pub goes_none : (sight : Sight) (stage : ℕ) (micro : Micro) (old : List ℕ) → None ≡ act_value sight (arg_value sight old) micro.line micro.act → GoesByLine sight stage micro old old
+goes_none sight stage micro old value = record {
+  value = both (micro.stage == stage) ∙ ap (λ o. if (micro.stage == stage) then old ++ option_to_list o else old) value;
+  fits = subst (λ o. IfSome o (λ v. v < 2 ^ width_of_act sight micro.act)) value tt;
+}
+  where
+    both : (b : Bool) → old ≡ (if b then old ++ [] else old)
+    both true = sym (append-nil old)
+    both false = refl
+
+pub goes_past : (sight : Sight) (stage : ℕ) (micro : Micro) (old : List ℕ) (o : Option ℕ) → (micro.stage ≡ stage → ⊥) → o ≡ act_value sight (arg_value sight old) micro.line micro.act → IfSome o (λ v. v < 2 ^ width_of_act sight micro.act)
+    → GoesByLine sight stage micro old old
+goes_past sight stage micro old o elsewhere value fits = record {
+  value = ap (λ b. if b then old ++ option_to_list (act_value sight (arg_value sight old) micro.line micro.act) else old) (sym (if_not (micro.stage == stage) (λ e. elsewhere (eqb-true micro.stage stage e))));
+  fits = subst (λ o. IfSome o (λ v. v < 2 ^ width_of_act sight micro.act)) value fits;
+}
+
+-- The loop of the program.
+
+pub reached_item : (sight : Sight) (stage : ℕ) (start : List ℕ) (items : List Micro) (i : ℕ) (d : Micro) (old new : List ℕ) → items ≡ sight.instr.micros → i < length items → IsGood sight.design sight.instr
+    → IsReached sight stage start i old → GoesByLine sight stage (get_or items i d) old new → IsReached sight stage start (i + 1) new
+reached_item sight stage start items i d old new same lt good reached goes =
+    reached_next sight stage start i old new (get_or items i d) good reached (subst (λ xs. slice_get xs i ≡ Some (get_or items i d)) same (slice_get-get_or items i d lt)) goes
+
+pub reached_end : (sight : Sight) (stage : ℕ) (start : List ℕ) (items : List Micro) (i : ℕ) (locals : List ℕ) → items ≡ sight.instr.micros → length items ≤ i → i ≤ length items → IsReached sight stage start i locals
+    → (locals ≡ locals_after sight start (lines_in stage sight.instr)) × LocalsStand sight.design sight.instr (stage + 1) locals
+reached_end sight stage start items i locals same low high reached =
+    let whole : i ≡ length sight.instr.micros = le_antisymm high low ∙ ap length same in
+    reached_all sight stage start locals (subst (λ n. IsReached sight stage start n locals) whole reached)

@@ -67,28 +67,41 @@ abbrev pub from_last : {X : Type 0} → (ℕ → Flight → List X) → ℕ → 
 from_last told stage [] = []
 from_last told stage (flight ∷ flights) = from_last told (stage + 1) flights ++ option_map_or (told stage) flight []
 
--- the writes of a flight, with its number and stage
-abbrev pub entries_of : ℕ → ℕ → Done → List Entry
-entries_of stage number done = map (λ (w : PortWrite). record { number = number; stage = stage; write = w }) done.writes
+-- a write of a flight, with its number and stage
+abbrev pub entry_of : ℕ → ℕ → PortWrite → Entry
+entry_of stage number write = record { number = number; stage = stage; write = write }
 
--- the samples of a flight, with its number
+abbrev pub entries_of : ℕ → ℕ → Done → List Entry
+entries_of stage number done = map (entry_of stage number) done.writes
+
+-- a sample of a flight, with its number
+abbrev pub sample_of : ℕ → InputRead → Sample
+sample_of number read = record { number = number; line = read.line; value = read.value }
+
 abbrev pub samples_of : ℕ → Done → List Sample
-samples_of number done = map (λ (r : InputRead). record { number = number; line = r.line; value = r.value }) done.reads
+samples_of number done = map (sample_of number) done.reads
+
+-- the writes, the samples and the passed stages of a flight in this cycle
+abbrev pub flight_entries : Design → List Card → TraceLine → State → Course → ℕ → Flight → List Entry
+flight_entries design cards inputs state course stage flight = option_map_or (entries_of stage flight.number) (done_in design cards inputs state course stage flight) []
+
+abbrev pub flight_samples : Design → List Card → TraceLine → State → Course → ℕ → Flight → List Sample
+flight_samples design cards inputs state course stage flight = option_map_or (samples_of flight.number) (done_in design cards inputs state course stage flight) []
+
+abbrev pub flight_passes : Design → Course → ℕ → Flight → List Pass
+flight_passes design course stage flight = if course.held stage || is_killed design course stage then [] else record { number = flight.number; stage = stage } ∷ []
 
 -- the writes of a cycle, the last stage first and within a stage in the order of its writes
 unfoldable pub cycle_entries : Design → List Card → TraceLine → State → Course → List Entry
-cycle_entries design cards inputs state course =
-    from_last (λ stage (flight : Flight). option_map_or (entries_of stage flight.number) (done_in design cards inputs state course stage flight) []) 1 state.flights
+cycle_entries design cards inputs state course = from_last (flight_entries design cards inputs state course) 1 state.flights
 
 -- the samples of a cycle
 unfoldable pub cycle_samples : Design → List Card → TraceLine → State → Course → List Sample
-cycle_samples design cards inputs state course =
-    from_last (λ stage (flight : Flight). option_map_or (samples_of flight.number) (done_in design cards inputs state course stage flight) []) 1 state.flights
+cycle_samples design cards inputs state course = from_last (flight_samples design cards inputs state course) 1 state.flights
 
 -- the stages that flights pass in a cycle
-unfoldable pub cycle_passes : Design → List Card → TraceLine → State → Course → List Pass
-cycle_passes design cards inputs state course =
-    from_last (λ stage (flight : Flight). if course.held stage || is_killed design course stage then [] else record { number = flight.number; stage = stage } ∷ []) 1 state.flights
+unfoldable pub cycle_passes : Design → State → Course → List Pass
+cycle_passes design state course = from_last (flight_passes design course) 1 state.flights
 
 -- the word that is fetched
 abbrev pub fetched : Image → State → Flight
@@ -124,10 +137,13 @@ cycle_flights design cards image inputs state course = flights_from design cards
 abbrev pub next_pc : Design → State → Course → ℕ
 next_pc design state course = if course.held 0 then state.pc else unwrap_or course.taken ((state.pc + 1) % 2 ^ design.address)
 
--- the numbers of the flights that aren't killed, the word being fetched among them
+-- the number of a flight that isn't killed
+abbrev pub unkilled_number : Design → Course → ℕ → Flight → List ℕ
+unkilled_number design course stage flight = if is_killed design course stage then [] else flight.number ∷ []
+
+-- the numbers of all that aren't killed, the word being fetched among them
 abbrev pub unkilled_numbers : Design → State → Course → List ℕ
-unkilled_numbers design state course =
-    from_last (λ stage (flight : Flight). if is_killed design course stage then [] else flight.number ∷ []) 1 state.flights ++ (if course.held 0 || is_killed design course 0 then [] else state.next ∷ [])
+unkilled_numbers design state course = from_last (unkilled_number design course) 1 state.flights ++ (if course.held 0 || is_killed design course 0 then [] else state.next ∷ [])
 
 -- the next number after a cycle: one more than the greatest that wasn't killed where a transfer was taken; else it goes on with each
 -- fetched word
@@ -150,7 +166,7 @@ after_course design cards image inputs state course =
       next = next;
       log = state.log ++ entries;
       sampled = kept (λ (s : Sample). s.number) course next (state.sampled ++ cycle_samples design cards inputs state course);
-      passes = kept (λ (p : Pass). p.number) course next (state.passes ++ cycle_passes design cards inputs state course);
+      passes = kept (λ (p : Pass). p.number) course next (state.passes ++ cycle_passes design state course);
     }
 
 -- one cycle, with these inputs

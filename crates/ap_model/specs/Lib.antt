@@ -7,6 +7,8 @@ pub mod Landings
 pub mod OneCount
 pub mod PlainViews
 pub mod Ports
+pub mod Runnable
+pub mod Scenes
 pub mod Sequence
 pub mod ShownRows
 pub mod Stalls

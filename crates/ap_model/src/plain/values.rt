@@ -14,6 +14,7 @@ use ap_bits::{Card, Items, eval, mask, sext};
 use ap_desc::design::{Act, Arg, Design, Field, Instr};
 
 /// What the lines of an instruction look at besides the locals.
+#[derive(Drop)]
 pub(crate) struct View<'a> {
     pub design: &'a Design,
     pub cards: &'a [Card],
@@ -51,7 +52,7 @@ fn above(v: u64, low: u32) -> u64
 
 /// The lowest bits of a value.
 #[tactic(auto, using(crate::proofs::PlainWidths::low_all, std::proofs::lemmas::Nat::and_mask))]
-fn low_bits(v: u64, width: u32) -> u64
+pub(crate) fn low_bits(v: u64, width: u32) -> u64
     ensures { result ≡ v % 2 ^ width }
 {
     if width == 0 {

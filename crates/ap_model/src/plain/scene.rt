@@ -1,0 +1,360 @@
+//! What the flights do in one cycle.
+ghost use Rattle.std.specs.Prelude.{◌≡◌, ◌++◌, ◌+◌, ◌<◌, ◌^◌, [], IfOk, IfSome, OnOk, length, if◌then◌else◌, map, option_map};
+ghost use Rattle.std.specs.Option.{option_map_or};
+ghost use Rattle.ap_model.specs.Cycles.{done_in, entry_of, sample_of, flight_entries, flight_passes, flight_samples, flights_from, from_last, is_killed, leaving, staying, unkilled_number};
+ghost use Rattle.ap_model.specs.Fitting.{DoneFits, EntriesFit, FlightFits, FlightsFit, WaitsWithin};
+ghost use Rattle.ap_model.specs.Scenes.{SceneFits, course_of_scene};
+
+use super::lists::copied;
+use super::stage::fire;
+use super::stalls::is_held_stage;
+use crate::state::{Done, Entry, Flight, InputRead, Pass, Sample, State};
+use crate::storage::PortWrite;
+use ap_bits::{Card, Items, NoMemory};
+use ap_desc::design::Design;
+use ap_image::TraceLine;
+use std::alloc::Global;
+
+/// What a cycle goes by: the design and its cards, the inputs, the state at its start, which stages are busy, and the target of
+/// the transfer that is taken.
+#[derive(Drop)]
+pub(crate) struct Scene<'a> {
+    pub design: &'a Design,
+    pub cards: &'a [Card],
+    pub inputs: &'a TraceLine,
+    pub state: &'a State,
+    pub busy: &'a [bool],
+    pub taken: Option<u64>,
+}
+
+/// Whether the stage is held.
+pub(crate) fn is_held(scene: &Scene, stage: u32) -> bool
+    ensures { result ≡ (course_of_scene scene.now).held stage }
+{
+    is_held_stage(scene.design, scene.busy, stage)
+}
+
+/// Whether the flight in the stage is killed.
+pub(crate) fn is_killed(scene: &Scene, stage: u32) -> bool
+    ensures { result ≡ is_killed scene.now.design.now (course_of_scene scene.now) stage }
+{
+    let before = scene.design.branch.saturating_sub(stage);
+    scene.taken.is_some() && scene.design.slots < before
+}
+
+/// What a flight does: nothing where its stage is held or it is killed.
+fn done_in(
+    alloc: Global,
+    scene: &Scene,
+    stage: u32,
+    flight: &Flight,
+) -> Result<Option<Done>, NoMemory>
+    requires scene { SceneFits scene.now }
+    requires flight { FlightFits scene.now.design.now stage flight.now }
+    ensures value { IfOk result (λ d. d ≡ done_in scene.now.design.now scene.now.cards.now scene.now.inputs.now scene.now.state.now (course_of_scene scene.now) stage flight.now) }
+    ensures fits { IfOk result (λ d. IfSome d (DoneFits scene.now.design.now flight.now.word stage)) }
+{
+    if is_held(scene, stage) || is_killed(scene, stage) {
+        return Ok(None);
+    }
+    let storages = &scene.state.storages;
+    let ports = scene.inputs.ports.as_slice();
+    let done = fire(
+        alloc,
+        scene.design,
+        scene.cards,
+        stage,
+        flight,
+        storages,
+        ports,
+    )?;
+    Ok(Some(done))
+}
+
+/// Adds the writes of a flight.
+fn add_writes(
+    number: u64,
+    stage: u32,
+    writes: &[PortWrite],
+    out: &mut Items<Entry>,
+) -> Result<(), NoMemory>
+    ensures { OnOk result (out.new ≡ out.old ++ map (entry_of stage number) writes.now) }
+{
+    for write in writes {
+        out.push(Entry {
+            number,
+            stage,
+            write: *write,
+        })?;
+    }
+    Ok(())
+}
+
+/// Adds the samples of a flight.
+fn add_reads(number: u64, reads: &[InputRead], out: &mut Items<Sample>) -> Result<(), NoMemory>
+    ensures { OnOk result (out.new ≡ out.old ++ map (sample_of number) reads.now) }
+{
+    for read in reads {
+        out.push(Sample {
+            number,
+            line: read.line,
+            value: read.value,
+        })?;
+    }
+    Ok(())
+}
+
+/// Adds the writes of what stands in a stage.
+fn add_flight_entries(
+    alloc: Global,
+    scene: &Scene,
+    stage: u32,
+    flight: &Option<Flight>,
+    out: &mut Items<Entry>,
+) -> Result<(), NoMemory>
+    requires scene { SceneFits scene.now }
+    requires flight { IfSome flight.now (FlightFits scene.now.design.now stage) }
+    ensures value { OnOk result (out.new ≡ out.old ++ option_map_or (flight_entries scene.now.design.now scene.now.cards.now scene.now.inputs.now scene.now.state.now (course_of_scene scene.now) stage) flight.now []) }
+    ensures fits { OnOk result (EntriesFit scene.now.design.now (option_map_or (flight_entries scene.now.design.now scene.now.cards.now scene.now.inputs.now scene.now.state.now (course_of_scene scene.now) stage) flight.now [])) }
+{
+    let Some(flight) = flight else {
+        return Ok(());
+    };
+    if let Some(done) = done_in(alloc, scene, stage, flight)? {
+        add_writes(flight.number, stage, done.writes.as_slice(), out)?;
+    }
+    Ok(())
+}
+
+/// Adds the samples of what stands in a stage.
+fn add_flight_samples(
+    alloc: Global,
+    scene: &Scene,
+    stage: u32,
+    flight: &Option<Flight>,
+    out: &mut Items<Sample>,
+) -> Result<(), NoMemory>
+    requires scene { SceneFits scene.now }
+    requires flight { IfSome flight.now (FlightFits scene.now.design.now stage) }
+    ensures { OnOk result (out.new ≡ out.old ++ option_map_or (flight_samples scene.now.design.now scene.now.cards.now scene.now.inputs.now scene.now.state.now (course_of_scene scene.now) stage) flight.now []) }
+{
+    let Some(flight) = flight else {
+        return Ok(());
+    };
+    match done_in(alloc, scene, stage, flight)? {
+        Some(done) => add_reads(flight.number, done.reads.as_slice(), out),
+        None => Ok(()),
+    }
+}
+
+/// Adds the stage that what stands in it passes.
+fn add_flight_passes(
+    scene: &Scene,
+    stage: u32,
+    flight: &Option<Flight>,
+    out: &mut Items<Pass>,
+) -> Result<(), NoMemory>
+    ensures { OnOk result (out.new ≡ out.old ++ option_map_or (flight_passes scene.now.design.now (course_of_scene scene.now) stage) flight.now []) }
+{
+    let Some(flight) = flight else {
+        return Ok(());
+    };
+    if is_held(scene, stage) || is_killed(scene, stage) {
+        return Ok(());
+    }
+    out.push(Pass {
+        number: flight.number,
+        stage,
+    })
+}
+
+/// Adds the number of what stands in a stage, unless it is killed.
+fn add_flight_number(
+    scene: &Scene,
+    stage: u32,
+    flight: &Option<Flight>,
+    out: &mut Items<u64>,
+) -> Result<(), NoMemory>
+    ensures { OnOk result (out.new ≡ out.old ++ option_map_or (unkilled_number scene.now.design.now (course_of_scene scene.now) stage) flight.now []) }
+{
+    let Some(flight) = flight else {
+        return Ok(());
+    };
+    if is_killed(scene, stage) {
+        return Ok(());
+    }
+    out.push(flight.number)
+}
+
+/// Adds the writes of the flights from a stage on, the last stage first.
+pub(crate) fn add_entries(
+    alloc: Global,
+    scene: &Scene,
+    stage: u32,
+    flights: &[Option<Flight>],
+    out: &mut Items<Entry>,
+) -> Result<(), NoMemory>
+    requires scene { SceneFits scene.now }
+    requires room { stage + length flights.now < 100 }
+    requires flights { FlightsFit scene.now.design.now stage flights.now }
+    ensures value { OnOk result (out.new ≡ out.old ++ from_last (flight_entries scene.now.design.now scene.now.cards.now scene.now.inputs.now scene.now.state.now (course_of_scene scene.now)) stage flights.now) }
+    ensures fits { OnOk result (EntriesFit scene.now.design.now (from_last (flight_entries scene.now.design.now scene.now.cards.now scene.now.inputs.now scene.now.state.now (course_of_scene scene.now)) stage flights.now)) }
+{
+    match flights {
+        [] => Ok(()),
+        [flight, rest @ ..] => {
+            add_entries(alloc, scene, stage + 1, rest, out)?;
+            add_flight_entries(alloc, scene, stage, flight, out)?;
+            Ok(())
+        }
+    }
+}
+
+/// Adds the samples of the flights from a stage on, the last stage first.
+pub(crate) fn add_samples(
+    alloc: Global,
+    scene: &Scene,
+    stage: u32,
+    flights: &[Option<Flight>],
+    out: &mut Items<Sample>,
+) -> Result<(), NoMemory>
+    requires scene { SceneFits scene.now }
+    requires room { stage + length flights.now < 100 }
+    requires flights { FlightsFit scene.now.design.now stage flights.now }
+    ensures { OnOk result (out.new ≡ out.old ++ from_last (flight_samples scene.now.design.now scene.now.cards.now scene.now.inputs.now scene.now.state.now (course_of_scene scene.now)) stage flights.now) }
+{
+    match flights {
+        [] => Ok(()),
+        [flight, rest @ ..] => {
+            add_samples(alloc, scene, stage + 1, rest, out)?;
+            add_flight_samples(alloc, scene, stage, flight, out)
+        }
+    }
+}
+
+/// Adds the stages that the flights from a stage on pass, the last stage first.
+pub(crate) fn add_passes(
+    scene: &Scene,
+    stage: u32,
+    flights: &[Option<Flight>],
+    out: &mut Items<Pass>,
+) -> Result<(), NoMemory>
+    requires room { stage + length flights.now < 100 }
+    ensures { OnOk result (out.new ≡ out.old ++ from_last (flight_passes scene.now.design.now (course_of_scene scene.now)) stage flights.now) }
+{
+    match flights {
+        [] => Ok(()),
+        [flight, rest @ ..] => {
+            add_passes(scene, stage + 1, rest, out)?;
+            add_flight_passes(scene, stage, flight, out)
+        }
+    }
+}
+
+/// Adds the numbers of the flights from a stage on that aren't killed, the last stage first.
+pub(crate) fn add_numbers(
+    scene: &Scene,
+    stage: u32,
+    flights: &[Option<Flight>],
+    out: &mut Items<u64>,
+) -> Result<(), NoMemory>
+    requires room { stage + length flights.now < 100 }
+    ensures { OnOk result (out.new ≡ out.old ++ from_last (unkilled_number scene.now.design.now (course_of_scene scene.now)) stage flights.now) }
+{
+    match flights {
+        [] => Ok(()),
+        [flight, rest @ ..] => {
+            add_numbers(scene, stage + 1, rest, out)?;
+            add_flight_number(scene, stage, flight, out)
+        }
+    }
+}
+
+/// What leaves a stage for the next one.
+fn leaving(
+    alloc: Global,
+    scene: &Scene,
+    stage: u32,
+    flight: &Option<Flight>,
+) -> Result<Option<Flight>, NoMemory>
+    requires scene { SceneFits scene.now }
+    requires flight { IfSome flight.now (FlightFits scene.now.design.now stage) }
+    ensures value { IfOk result (λ l. l ≡ leaving scene.now.design.now scene.now.cards.now scene.now.inputs.now scene.now.state.now (course_of_scene scene.now) stage flight.now) }
+    ensures fits { IfOk result (λ l. IfSome l (FlightFits scene.now.design.now (stage + 1))) }
+{
+    let Some(flight) = flight else {
+        return Ok(None);
+    };
+    match done_in(alloc, scene, stage, flight)? {
+        Some(done) => Ok(Some(Flight {
+            number: flight.number,
+            word: flight.word,
+            place: flight.place,
+            locals: done.locals,
+            waited: 0,
+        })),
+        None => Ok(None),
+    }
+}
+
+/// What stays in a stage.
+fn staying(alloc: Global, flight: &Option<Flight>) -> Result<Option<Flight>, NoMemory>
+    requires { IfSome flight.now (λ f. f.waited < 2 ^ 63) }
+    ensures { IfOk result (λ s. s ≡ option_map staying flight.now) }
+{
+    match flight {
+        Some(f) => Ok(Some(Flight {
+            number: f.number,
+            word: f.word,
+            place: f.place,
+            locals: copied(alloc, f.locals.as_slice())?,
+            waited: f.waited + 1,
+        })),
+        None => Ok(None),
+    }
+}
+
+/// What stands in a stage after the cycle.
+fn standing(
+    alloc: Global,
+    held: bool,
+    flight: &Option<Flight>,
+    coming: Option<Flight>,
+) -> Result<Option<Flight>, NoMemory>
+    requires { IfSome flight.now (λ f. f.waited < 2 ^ 63) }
+    ensures { IfOk result (λ s. s ≡ (if held then option_map staying flight.now else coming)) }
+{
+    if held {
+        staying(alloc, flight)
+    } else {
+        Ok(coming)
+    }
+}
+
+/// Adds the flights after the cycle, from a stage on, to which this comes from the stage before.
+pub(crate) fn add_flights(
+    alloc: Global,
+    scene: &Scene,
+    stage: u32,
+    coming: Option<Flight>,
+    flights: &[Option<Flight>],
+    out: &mut Items<Option<Flight>>,
+) -> Result<(), NoMemory>
+    requires scene { SceneFits scene.now }
+    requires room { stage + length flights.now < 100 }
+    requires flights { FlightsFit scene.now.design.now stage flights.now }
+    requires waits { WaitsWithin (2 ^ 63) flights.now }
+    requires coming { IfSome coming (FlightFits scene.now.design.now stage) }
+    ensures value { OnOk result (out.new ≡ out.old ++ flights_from scene.now.design.now scene.now.cards.now scene.now.inputs.now scene.now.state.now (course_of_scene scene.now) stage coming flights.now) }
+    ensures fits { OnOk result (FlightsFit scene.now.design.now stage (flights_from scene.now.design.now scene.now.cards.now scene.now.inputs.now scene.now.state.now (course_of_scene scene.now) stage coming flights.now)) }
+{
+    match flights {
+        [] => Ok(()),
+        [flight, rest @ ..] => {
+            let left = leaving(alloc, scene, stage, flight)?;
+            out.push(standing(alloc, is_held(scene, stage), flight, coming)?)?;
+            add_flights(alloc, scene, stage + 1, left, rest, out)?;
+            Ok(())
+        }
+    }
+}
