@@ -4,7 +4,6 @@ ghost use Rattle.ap_desc.specs.Shelf.{IsOfCards};
 ghost use Rattle.ap_desc.specs.Sound.{IsEncoded, IsSound};
 ghost use Rattle.ap_model.specs.Examples.{example_cards, processor, two_ports, two_memories, code_of, waiting_image, waiting_trace, no_trace, inputs_567, branch_code, jump_code, run, stall, kill, cell, two_cells, logged, pass};
 ghost use Rattle.ap_model.specs.Landings.{LandsOn, passed, samples};
-ghost use Rattle.ap_model.specs.Runnable.{IsRunnable};
 ghost use Rattle.ap_model.specs.Sequence.{sequential};
 ghost use Rattle.ap_model.specs.ShownRows.{rows_of};
 
@@ -12,7 +11,6 @@ ghost use Rattle.ap_model.specs.ShownRows.{rows_of};
 fn sound_processor()
     ensures sound { IsSound processor }
     ensures cards { IsOfCards processor example_cards }
-    ensures runs { IsRunnable processor example_cards }
     ensures two_ports { IsSound two_ports }
     ensures two_memories { IsSound two_memories }
 {}
