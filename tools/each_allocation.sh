@@ -1,6 +1,6 @@
 #!/usr/bin/env bash
 # Makes each allocation of the stored run fail in turn: every run has to end with status 7 or 0. It stops after three runs
-# in a row that end with 0, since then no allocation is left to fail. Four runs go side by side; each takes some ten seconds.
+# in a row that end with 0, since then no allocation is left to fail. Four runs go side by side; each takes about a minute.
 #   tools/each_allocation.sh [FIRST]
 set -u
 cd "$(dirname "$0")/../crates/asip" || exit 1
