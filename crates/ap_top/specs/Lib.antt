@@ -1,3 +1,4 @@
+pub mod Additions
 pub mod Commands
 pub mod Form
 pub mod Found
