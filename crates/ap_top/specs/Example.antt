@@ -1,16 +1,32 @@
 -- A worked example: the first rows of one small processor, computed from the definitions.
 use Rattle.std.specs.Prelude.{◌≡◌, ℕ, List, [], ◌∷◌, map, codes, None, false}
+use Rattle.ap_bits.specs.declared.term.BinOp.TheVariants.{Add}
+use Rattle.ap_bits.specs.declared.term.Term.{Bin, A, B}
+use Rattle.ap_bits.specs.declared.card.Card.{Card}
+use Rattle.ap_bits.specs.declared.card.Widths.TheVariants.{Any}
+use Rattle.ap_bits.specs.declared.card.Latency.TheVariants.{One}
 use Rattle.ap_desc.specs.declared.description.Numbered.{Numbered}
 use Rattle.ap_desc.specs.declared.statement.Statement.TheVariants as s
 use Rattle.ap_desc.specs.declared.statement.Word.TheVariants.{Named}
 use Rattle.ap_image.specs.declared.image.Image.{Image}
 use Rattle.ap_net.specs.Rows.{Row}
 use Rattle.ap_top.specs.declared.form.Form.{Form}
+use Rattle.ap_top.specs.Additions.{Operation}
 use Rattle.ap_top.specs.Machine.{row}
 
 -- the form with a pc of 4 bits, words and a register of 8 bits that starts at 3, and the instruction 1 that adds 250
 abbrev pub example_form : Form
 example_form = record { address = 4; word = 8; width = 8; start = 3; code = 1; constant = 250 }
+
+-- a shelf with one kind, which adds
+abbrev pub example_card : Card
+example_card = record { name = codes "alu"; ops = record { name = codes "add"; term = Bin Add A B } ∷ []; widths = Any; latency = One }
+
+abbrev pub example_cards : List Card
+example_cards = example_card ∷ []
+
+abbrev pub example_operation : Operation
+example_operation = record { card = example_card; number = 0 }
 
 -- a description of it
 abbrev pub example_text : List ℕ
