@@ -23,11 +23,11 @@ is_named_tells part name net h = go (net.part == part) (bytes_eq net.name name) 
     go true b p q h = ((Decides-eqb net.part part).0 p, (bytes_eq-Decides net.name name).0 (q ∙ h))
     go false b p q h = cc
 
-found : (b : Bool) (x y : ℕ) → b ≡ true → (if b then x else y) ≡ x
+pub found : (b : Bool) (x y : ℕ) → b ≡ true → (if b then x else y) ≡ x
 found true x y e = refl
 found false x y e = cc
 
-passed : (b : Bool) (x y : ℕ) → (b ≡ true → ⊥) → (if b then x else y) ≡ y
+pub passed : (b : Bool) (x y : ℕ) → (b ≡ true → ⊥) → (if b then x else y) ≡ y
 passed true x y ne = absurd (ne refl)
 passed false x y ne = refl
 
