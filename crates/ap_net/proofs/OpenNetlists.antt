@@ -1,8 +1,7 @@
-use Rattle.std.proofs.Common.{◌≡◌, ◌≢◌, List, [], ◌∷◌, map, Option, Some, sym, ap, subst, ◌∙◌}
-use Rattle.std.specs.Prelude.{codes}
+use Rattle.std.proofs.Common.{◌≡◌, ◌≢◌, List, [], ◌∷◌, map, Option, sym, subst, ◌∙◌}
 use Rattle.std.specs.List.{AllByRecursion as Each}
 use Rattle.ap_net.specs.Names.{AreDistinct}
-use Rattle.ap_net.specs.Modules.{ModuleText, IsModule, IsInstanceIn, EndsInTop, last_module, earlier}
+use Rattle.ap_net.specs.Modules.{ModuleText, IsModule, EndsInTop, last_module, earlier}
 use Rattle.ap_net.specs.Flat.{IsOpenNetlist, NetlistsOpen, opened_last}
 use Rattle.ap_net.proofs.Lists.{All-unmap}
 use Rattle.ap_net.proofs.Netlists.{All-last, top_of}

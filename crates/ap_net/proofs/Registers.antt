@@ -4,17 +4,14 @@ use Rattle.std.specs.Prelude.{slice_get, slice_index, ◌==◌, if◌then◌else
 use Rattle.std.specs.List.{AllByRecursion as Each}
 use Rattle.std.proofs.lemmas.Nat.{pow_pos}
 use Rattle.std.proofs.lemmas.Bool.Decides.{Decides-eqb}
-use Rattle.ap_net.specs.declared.net.Role.{Role}
-use Rattle.ap_net.specs.declared.net.Role.TheVariants as role
 use Rattle.ap_net.specs.declared.net.ModuleNet.{ModuleNet}
 use Rattle.ap_net.specs.declared.net.Next.{Next}
-use Rattle.ap_net.specs.Cells.{IsNet}
 use Rattle.ap_net.specs.Wiring.{NextFits, ClockedOnce, IsSource, reset_of}
 use Rattle.ap_net.specs.Modules.{reset_value}
-use Rattle.ap_net.specs.Flat.{Flat, Solves, IsOpenNetlist, plain_nets, reset_in}
+use Rattle.ap_net.specs.Flat.{plain_nets, reset_in}
 use Rattle.ap_net.specs.Registers.{held, RegistersFit, ResetsFit, TakenFit}
 use Rattle.ap_net.proofs.Lists.{All-from, All-at, some_same}
-use Rattle.ap_net.proofs.Parts.{net_of_width, width_at}
+use Rattle.ap_net.proofs.Parts.{net_of_width}
 use Rattle.ap_net.proofs.Found.{found, passed}
 
 -- another register's number leaves the first driver out

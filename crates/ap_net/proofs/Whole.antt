@@ -1,34 +1,30 @@
 -- What an opened netlist keeps: its equations are well formed, no net has two, and its registers and their drivers are those of
 -- the modules.
-use Rattle.std.proofs.Common.{◌≡◌, ◌≢◌, ℕ, suc, zero, ◌+◌, ◌-◌, ◌<◌, ◌≤◌, ◌^◌, List, [], ◌∷◌, ◌++◌, length, map, Option, Some, None, Bool, true, false, refl, sym, ap, subst, ◌∙◌, arith, inl, inr, ⊎_elim, append_assoc, length-append, zero-add, add-zero}
+use Rattle.std.proofs.Common.{◌≡◌, ◌≢◌, ℕ, suc, zero, ◌+◌, ◌<◌, ◌≤◌, ◌^◌, List, [], ◌∷◌, ◌++◌, length, map, Option, Some, None, Bool, true, false, refl, sym, ap, subst, ◌∙◌, arith, length-append}
 use Rattle.std.specs.Prelude.{slice_get, option_map, if◌then◌else◌}
 use Rattle.std.specs.List.{AllByRecursion as Each}
 use Rattle.std.proofs.lemmas.List.{map-append, length-map}
-use Rattle.std.proofs.lemmas.Option.{slice_get_within, slice_get-map}
+use Rattle.std.proofs.lemmas.Option.{slice_get-map}
 use Rattle.ap_net.specs.declared.cell.Wire.{Wire}
 use Rattle.ap_net.specs.declared.cell.Cell.{Cell}
 use Rattle.ap_net.specs.declared.cell.Cell.TheVariants as cell
 use Rattle.ap_net.specs.declared.net.Role.{Role}
 use Rattle.ap_net.specs.declared.net.Role.TheVariants as role
 use Rattle.ap_net.specs.declared.net.ModuleNet.{ModuleNet}
-use Rattle.ap_net.specs.declared.net.FlatNet.{FlatNet}
 use Rattle.ap_net.specs.declared.net.Port.{Port}
-use Rattle.ap_net.specs.declared.net.Net.{Net}
-use Rattle.ap_net.specs.declared.net.RegNet.{RegNet}
 use Rattle.ap_net.specs.declared.net.Assign.{Assign}
 use Rattle.ap_net.specs.declared.net.Next.{Next}
 use Rattle.ap_net.specs.declared.net.Instance.{Instance}
 use Rattle.ap_net.specs.declared.net.Join.{Join}
 use Rattle.ap_net.specs.Cells.{IsNet, CellFits}
-use Rattle.ap_net.specs.Wiring.{IsSource, reset_of, IsFree, Undriven, DrivenOnce, ClockedOnce, NextFits, AreApart, driven_among, driven_by, taken_names}
-use Rattle.ap_net.specs.Modules.{ModuleText, IsModule, nets_of, module_named, Connects, IsInstanceIn, port_net, wire_net, reg_net, placed, cell_placed, assign_placed, next_placed}
-use Rattle.ap_net.specs.Flat.{IsFlat, IsFlatDriven, NamesDiffer, AreClocked, inner_role, top_net, part_net, plain_net, plain_nets, nets_in, assigns_in, nexts_in, part_size, part_nets, part_assigns, part_nexts, part_joins, joins_from, base_from, base_of, opened_over, join_assign, equations}
-use Rattle.ap_net.proofs.Lists.{All-join, All-front, All-back, All-from, All-both, All-at, All-map, All-unmap, Each-at, get_left, get_right, get_either, some_same}
-use Rattle.ap_net.proofs.Wired.{number-IsNet, IsNet-more, CellFits-more}
+use Rattle.ap_net.specs.Wiring.{IsSource, reset_of, IsFree, DrivenOnce, ClockedOnce, NextFits, AreApart, driven_among, driven_by}
+use Rattle.ap_net.specs.Modules.{ModuleText, IsModule, nets_of, module_named, IsInstanceIn, port_net, wire_net, reg_net, placed, cell_placed, assign_placed, next_placed}
+use Rattle.ap_net.specs.Flat.{IsFlat, AreClocked, inner_role, plain_nets, nets_in, assigns_in, nexts_in, part_size, part_assigns, part_nexts, part_joins, joins_from, base_from, base_of, opened_over, join_assign, equations}
+use Rattle.ap_net.proofs.Lists.{All-join, All-front, All-back, All-from, All-both, All-at, All-map, Each-at, some_same}
+use Rattle.ap_net.proofs.Wired.{number-IsNet, CellFits-more}
 use Rattle.ap_net.proofs.Connected.{driven_within}
-use Rattle.ap_net.proofs.Renumbered.{some_within, names_differ}
-use Rattle.ap_net.proofs.Finished.{unmapped}
-use Rattle.ap_net.proofs.Parts.{inner_net, nets_by, whole_nets, plain-opened, parts_stand, part_net_at, own_net_at, net_of_width, width_at, part_assigns-all, part_joins-all, part_joins-at, joins_from-all, joins_from-at, join_of, All-named, port_at, part_size-found}
+use Rattle.ap_net.proofs.Renumbered.{some_within}
+use Rattle.ap_net.proofs.Parts.{inner_net, nets_by, plain-opened, parts_stand, part_net_at, own_net_at, net_of_width, width_at, part_assigns-all, part_joins-all, joins_from-all, join_of, All-named, port_at, part_size-found}
 
 -- a cell over nets that stand elsewhere
 CellFits-by : (olds news : List ModuleNet) (place : ℕ → ℕ) → ((w : Wire) → IsNet olds w → IsNet news (placed place w)) → (w : ℕ) (c : Cell) → CellFits olds w c → CellFits news w (cell_placed place c)
