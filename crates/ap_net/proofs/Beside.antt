@@ -1,6 +1,6 @@
 -- What a caller knows of an opened netlist beside its solutions: where the nets of top stand, and what parts without registers
 -- leave out.
-use Rattle.std.proofs.Common.{◌≡◌, ℕ, ◌+◌, ◌<◌, List, [], ◌∷◌, ◌++◌, length, map, Option, Some, None, Bool, true, false, refl, sym, ap, subst, ◌∙◌, ⊎_elim, append-nil}
+use Rattle.std.proofs.Common.{◌≡◌, ℕ, ◌+◌, List, [], ◌∷◌, ◌++◌, map, Option, Some, None, Bool, true, false, refl, sym, ap, subst, ◌∙◌, ⊎_elim}
 use Rattle.std.specs.Prelude.{slice_get, option_map, if◌then◌else◌}
 use Rattle.std.specs.List.{AllByRecursion as Each}
 use Rattle.std.proofs.lemmas.Option.{slice_get-map}
@@ -8,11 +8,10 @@ use Rattle.ap_net.specs.declared.cell.Wire.{Wire}
 use Rattle.ap_net.specs.declared.net.ModuleNet.{ModuleNet}
 use Rattle.ap_net.specs.declared.net.RegNet.{RegNet}
 use Rattle.ap_net.specs.declared.net.Instance.{Instance}
-use Rattle.ap_net.specs.declared.net.Next.{Next}
 use Rattle.ap_net.specs.declared.net.Role.TheVariants as role
 use Rattle.ap_net.specs.Wiring.{IsSource}
 use Rattle.ap_net.specs.Modules.{ModuleText, nets_of, module_named, IsInstanceIn, port_net, wire_net, reg_net, placed, next_placed, instance_placed}
-use Rattle.ap_net.specs.Flat.{inner_role, top_net, part_net, plain_nets, nets_in, nexts_in, part_size, part_nets, part_nexts, opened_over}
+use Rattle.ap_net.specs.Flat.{inner_role, top_net, plain_nets, nets_in, nexts_in, part_size, part_nets, part_nexts, opened_over}
 use Rattle.ap_net.proofs.Lists.{get_left, get_either, map-map}
 use Rattle.ap_net.proofs.Finished.{unmapped}
 use Rattle.ap_net.proofs.Parts.{inner_net, nets_by, plain-opened, All-named}

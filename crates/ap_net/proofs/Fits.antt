@@ -17,7 +17,7 @@ use Rattle.ap_net.specs.declared.net.Assign.{Assign}
 use Rattle.ap_net.specs.Cells.{two_value, cell_value, operands, widths_of, IsNet, FitsTwo, CellFits}
 use Rattle.ap_net.specs.declared.net.FlatNet.{FlatNet}
 use Rattle.ap_net.specs.Wiring.{IsSource, IsFree, Undriven}
-use Rattle.ap_net.specs.Flat.{Flat, Solves, plain_nets, equations}
+use Rattle.ap_net.specs.Flat.{plain_nets, equations}
 use Rattle.ap_net.specs.Sources.{Given, AlwaysSolvable}
 use Rattle.ap_net.proofs.Lists.{All-from, All-both}
 use Rattle.ap_net.proofs.Wired.{number-IsNet, operands-CellFits}

@@ -1,16 +1,13 @@
-use Rattle.std.proofs.Common.{◌≡◌, ◌≢◌, ℕ, suc, zero, ◌<◌, ◌&&◌, List, [], ◌∷◌, length, map, Option, Some, None, Bool, true, false, refl, sym, ap, ◌∙◌, arith, eq-eqb}
+use Rattle.std.proofs.Common.{◌≡◌, ◌≢◌, ℕ, suc, zero, ◌&&◌, List, [], ◌∷◌, length, Option, Some, None, Bool, true, false, refl, sym, ap, ◌∙◌, arith, eq-eqb}
 use Rattle.std.specs.Prelude.{slice_get, slice_index, ◌==◌, if◌then◌else◌}
-use Rattle.std.specs.List.{AllByRecursion as Each}
-use Rattle.std.specs.Bool.{Decides}
 use Rattle.std.specs.Str.{bytes_eq}
 use Rattle.std.proofs.lemmas.Slice.Eq.{bytes_eq-Decides}
 use Rattle.std.proofs.lemmas.Bool.Decides.{Decides-eqb}
 use Rattle.ap_net.specs.declared.net.FlatNet.{FlatNet}
 use Rattle.ap_net.specs.declared.net.Next.{Next}
 use Rattle.ap_net.specs.Wiring.{ClockedOnce}
-use Rattle.ap_net.specs.Flat.{NamesDiffer, AreClocked, is_named, names_net, value_in, register_among, NamesAreFound, RegistersAreFound}
+use Rattle.ap_net.specs.Flat.{NamesDiffer, is_named, names_net, value_in, register_among, NamesAreFound, RegistersAreFound}
 use Rattle.ap_net.proofs.Lists.{All-at, some_same}
-use Rattle.ap_net.proofs.Renumbered.{some_within}
 
 -- the test tells the net of this part and name
 pub named_is : (part : ℕ) (name : List ℕ) (net : FlatNet) → net.part ≡ part → net.name ≡ name → is_named part name net ≡ true
@@ -23,11 +20,11 @@ is_named_tells part name net h = go (net.part == part) (bytes_eq net.name name) 
     go true b p q h = ((Decides-eqb net.part part).0 p, (bytes_eq-Decides net.name name).0 (q ∙ h))
     go false b p q h = cc
 
-found : (b : Bool) (x y : ℕ) → b ≡ true → (if b then x else y) ≡ x
+pub found : (b : Bool) (x y : ℕ) → b ≡ true → (if b then x else y) ≡ x
 found true x y e = refl
 found false x y e = cc
 
-passed : (b : Bool) (x y : ℕ) → (b ≡ true → ⊥) → (if b then x else y) ≡ y
+pub passed : (b : Bool) (x y : ℕ) → (b ≡ true → ⊥) → (if b then x else y) ≡ y
 passed true x y ne = absurd (ne refl)
 passed false x y ne = refl
 

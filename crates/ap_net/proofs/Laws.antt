@@ -4,6 +4,7 @@ pub use Rattle.ap_net.proofs.Placing.{Places-Makes, Places-trans, SettlesOpen-be
 pub use Rattle.ap_net.proofs.NameLemmas.{IsNew-is_new, IsNotNumbered-other, is_other_letter, IsNetName-numbered_kind}
 pub use Rattle.ap_net.proofs.Netlists.{named_once, earlier-push, last-push}
 pub use Rattle.ap_net.proofs.Found.{named_is}
+pub use Rattle.ap_net.proofs.Registers.{held_all, held_fits, after_fit, reset_fit, held_register}
 pub use Rattle.ap_net.proofs.Parts.{own_net_at, spread-own, spread-part}
 pub use Rattle.ap_net.proofs.Beside.{IsInstanceIn-placed, top_net_at, no_part_nexts, sources_of_top}
 

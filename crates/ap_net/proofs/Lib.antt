@@ -19,6 +19,7 @@ pub mod Solution
 pub mod Fits
 pub mod Unique
 pub mod Found
+pub mod Registers
 pub mod Beside
 pub mod Laws
 pub mod Tested

@@ -1,5 +1,5 @@
 -- Where a net of an opened netlist comes from; so names differ within a part, and every net that is no source has an equation.
-use Rattle.std.proofs.Common.{◌≡◌, ◌≢◌, ℕ, suc, zero, ◌+◌, ◌<◌, ◌≤◌, List, [], ◌∷◌, ◌++◌, length, map, Option, Some, None, Bool, true, false, refl, sym, ap, subst, ◌∙◌, arith, inl, inr, ⊎_elim}
+use Rattle.std.proofs.Common.{◌≡◌, ◌≢◌, ℕ, suc, zero, ◌+◌, List, [], ◌∷◌, ◌++◌, length, map, Option, Some, Bool, true, false, refl, sym, ap, subst, ◌∙◌, arith, inl, inr, ⊎_elim}
 use Rattle.std.specs.Prelude.{◌⊎◌, slice_get, option_map, if◌then◌else◌}
 use Rattle.std.specs.List.{AllByRecursion as Each}
 use Rattle.std.proofs.lemmas.List.{length-map}
@@ -13,13 +13,13 @@ use Rattle.ap_net.specs.declared.net.Port.{Port}
 use Rattle.ap_net.specs.declared.net.Assign.{Assign}
 use Rattle.ap_net.specs.declared.net.Instance.{Instance}
 use Rattle.ap_net.specs.declared.net.Join.{Join}
-use Rattle.ap_net.specs.Wiring.{IsSource, Undriven, Unjoined, driven_by, reset_of}
+use Rattle.ap_net.specs.Wiring.{IsSource, Undriven, Unjoined}
 use Rattle.ap_net.specs.Modules.{ModuleText, IsModule, nets_of, module_named, Connects, IsInstanceIn, port_net, wire_net, reg_net}
-use Rattle.ap_net.specs.Flat.{IsFlatDriven, NamesDiffer, inner_role, top_net, part_net, plain_net, plain_nets, nets_in, assigns_in, part_size, part_nets, part_assigns, part_joins, base_from, base_of, opened_over, join_assign, equations}
+use Rattle.ap_net.specs.Flat.{IsFlatDriven, NamesDiffer, inner_role, top_net, part_net, plain_net, nets_in, assigns_in, part_size, part_nets, part_assigns, part_joins, base_from, base_of, opened_over, join_assign, equations}
 use Rattle.ap_net.proofs.Lists.{All-front, All-back, All-from, All-at, All-unmap, get_either, some_same}
 use Rattle.ap_net.proofs.Renumbered.{names_differ}
 use Rattle.ap_net.proofs.Finished.{unmapped}
-use Rattle.ap_net.proofs.Parts.{part_assigns-at, part_joins-at, joins_from-at, join_of, All-named}
+use Rattle.ap_net.proofs.Parts.{part_assigns-at, part_joins-at, joins_from-at, All-named}
 use Rattle.ap_net.proofs.Whole.{parts-driven}
 
 -- a net of an instance: its instance, its number in the module, and its place in the whole

@@ -1,5 +1,5 @@
 -- Finding modules by their names, and what the modules of a netlist keep.
-use Rattle.std.proofs.Common.{◌≡◌, ◌≢◌, ℕ, suc, zero, ◌+◌, ◌-◌, ◌<◌, List, [], ◌∷◌, ◌++◌, length, get_or, map, take, drop, Option, Some, None, Bool, true, false, refl, sym, ap, subst, ◌∙◌, arith, add-one, append_assoc, drop-cons}
+use Rattle.std.proofs.Common.{◌≡◌, ◌≢◌, ℕ, suc, zero, ◌+◌, ◌-◌, ◌<◌, List, [], ◌∷◌, ◌++◌, length, get_or, map, take, drop, Option, Some, None, true, false, refl, sym, ap, subst, ◌∙◌, arith, add-one, append_assoc, drop-cons}
 use Rattle.std.specs.Prelude.{slice_get, codes, if◌then◌else◌}
 use Rattle.std.specs.List.{AllByRecursion as Each}
 use Rattle.std.specs.Str.{bytes_eq}
@@ -9,7 +9,7 @@ use Rattle.ap_net.specs.declared.net.ModuleNet.{ModuleNet}
 use Rattle.ap_net.specs.declared.net.Port.{Port}
 use Rattle.ap_net.specs.declared.net.Instance.{Instance}
 use Rattle.ap_net.specs.Names.{AreDistinct}
-use Rattle.ap_net.specs.Modules.{ModuleText, IsModule, IsInstanceIn, IsNetlist, EndsInTop, module_named, last_module, earlier, name_at}
+use Rattle.ap_net.specs.Modules.{ModuleText, IsModule, IsInstanceIn, EndsInTop, module_named, last_module, earlier}
 use Rattle.std.proofs.lemmas.List.{length-map}
 use Rattle.ap_net.specs.Text.{connection_text, connections_text, wire_name, ports_in}
 use Rattle.std.proofs.lemmas.Option.{slice_get-get_or}

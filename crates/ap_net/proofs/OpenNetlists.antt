@@ -1,12 +1,11 @@
-use Rattle.std.proofs.Common.{◌≡◌, ◌≢◌, List, [], ◌∷◌, map, Option, Some, sym, ap, subst, ◌∙◌}
-use Rattle.std.specs.Prelude.{codes}
+use Rattle.std.proofs.Common.{◌≡◌, ◌≢◌, List, [], ◌∷◌, map, Option, sym, subst, ◌∙◌}
 use Rattle.std.specs.List.{AllByRecursion as Each}
 use Rattle.ap_net.specs.Names.{AreDistinct}
-use Rattle.ap_net.specs.Modules.{ModuleText, IsModule, IsInstanceIn, EndsInTop, last_module, earlier}
+use Rattle.ap_net.specs.Modules.{ModuleText, IsModule, EndsInTop, last_module, earlier}
 use Rattle.ap_net.specs.Flat.{IsOpenNetlist, NetlistsOpen, opened_last}
 use Rattle.ap_net.proofs.Lists.{All-unmap}
 use Rattle.ap_net.proofs.Netlists.{All-last, top_of}
-use Rattle.ap_net.proofs.Whole.{opened-IsFlat, opened-AreClocked}
+use Rattle.ap_net.proofs.Whole.{opened-IsFlat, opened-AreClocked, opened-registers, opened-resets}
 use Rattle.ap_net.proofs.Located.{opened-NamesDiffer, opened-IsFlatDriven}
 
 -- what holds of each module holds of each but the last
@@ -36,4 +35,6 @@ netlists_open modules h =
       driven = opened-IsFlatDriven (earlier modules) last.top each kept last.instances alone;
       names = opened-NamesDiffer (earlier modules) last.top each kept last.instances;
       clocked = opened-AreClocked (earlier modules) last.top each kept last.instances;
+      registers = opened-registers (earlier modules) last.top each kept last.instances;
+      resets = opened-resets (earlier modules) last.top each kept last.instances;
     })

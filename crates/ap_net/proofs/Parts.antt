@@ -1,5 +1,5 @@
 -- The nets and equations of an opened netlist, part by part.
-use Rattle.std.proofs.Common.{◌≡◌, ℕ, suc, zero, ◌+◌, ◌-◌, ◌<◌, ◌≤◌, ◌^◌, List, [], ◌∷◌, ◌++◌, length, map, Option, Some, None, Bool, true, false, refl, sym, ap, subst, ◌∙◌, arith, append_assoc, length-append, zero-add, add-zero}
+use Rattle.std.proofs.Common.{◌≡◌, ℕ, suc, zero, ◌+◌, ◌-◌, ◌<◌, List, [], ◌∷◌, ◌++◌, length, map, Option, Some, Bool, true, false, refl, sym, ap, subst, ◌∙◌, arith, append_assoc, length-append, add-zero}
 use Rattle.std.specs.Prelude.{slice_get, slice_index, option_map, nat_lt, if◌then◌else◌}
 use Rattle.std.specs.List.{AllByRecursion as Each}
 use Rattle.std.specs.Str.{bytes_eq}
@@ -11,16 +11,15 @@ use Rattle.ap_net.specs.declared.cell.Wire.{Wire}
 use Rattle.ap_net.specs.declared.net.ModuleNet.{ModuleNet}
 use Rattle.ap_net.specs.declared.net.Port.{Port}
 use Rattle.ap_net.specs.declared.net.Assign.{Assign}
-use Rattle.ap_net.specs.declared.net.Next.{Next}
 use Rattle.ap_net.specs.declared.net.Instance.{Instance}
 use Rattle.ap_net.specs.declared.net.Join.{Join}
 use Rattle.ap_net.specs.Cells.{IsNet, operands, widths_of}
 use Rattle.ap_net.specs.Wiring.{Holds, Settles, Ranked}
-use Rattle.ap_net.specs.Modules.{ModuleText, IsModule, nets_of, outputs, module_named, Connects, IsInstanceIn, port_net, wire_net, reg_net, placed, assign_placed, next_placed}
+use Rattle.ap_net.specs.Modules.{ModuleText, IsModule, nets_of, module_named, Connects, IsInstanceIn, port_net, wire_net, reg_net, placed, assign_placed}
 use Rattle.ap_net.specs.Opened.{SolveParts, Follows, IsOpenOrder}
-use Rattle.ap_net.specs.Flat.{Solves, inner_role, top_net, part_net, plain_net, plain_nets, nets_in, assigns_in, nexts_in, part_size, part_nets, part_assigns, part_nexts, part_joins, joins_from, base_from, base_of, opened_over, join_assign, equations, spread_parts, spread}
+use Rattle.ap_net.specs.Flat.{Solves, inner_role, top_net, part_net, plain_net, plain_nets, nets_in, assigns_in, part_size, part_nets, part_assigns, part_joins, joins_from, base_from, base_of, opened_over, join_assign, equations, spread_parts, spread}
 use Rattle.ap_net.proofs.Lists.{All-join, All-front, All-back, All-from, All-both, All-at, All-map, All-unmap, get_left, get_right, map-map, some_same}
-use Rattle.ap_net.proofs.Wired.{width_stays, number-IsNet, declared}
+use Rattle.ap_net.proofs.Wired.{number-IsNet, declared}
 use Rattle.ap_net.proofs.Renumbered.{some_within, operands-placed, cell_value-placed}
 
 -- a net of an instance in the whole, without its part

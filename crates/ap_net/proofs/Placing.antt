@@ -1,11 +1,11 @@
 -- An instance over ready nets and fresh wires is a piece of circuit.
-use Rattle.std.proofs.Common.{◌≡◌, ◌≢◌, ℕ, suc, zero, ◌+◌, ◌<◌, ◌≤◌, ◌^◌, max, List, [], ◌∷◌, ◌++◌, length, get_or, map, take, drop, Option, Some, None, Bool, true, false, refl, sym, ap, subst, ◌∙◌, arith, inl, inr, ⊎_elim, append-nil, append_assoc, length-append, add-zero, zero-add, add-one, eq-eqb, drop-cons}
-use Rattle.std.specs.Prelude.{◌⊎◌, slice_get, codes, ◌==◌, nat_lt, if◌then◌else◌}
+use Rattle.std.proofs.Common.{◌≡◌, ◌≢◌, ℕ, suc, zero, ◌+◌, ◌<◌, ◌≤◌, max, List, [], ◌∷◌, ◌++◌, length, get_or, map, take, drop, Some, Bool, true, false, refl, sym, ap, subst, ◌∙◌, arith, ⊎_elim, append-nil, append_assoc, length-append, add-one, eq-eqb, drop-cons}
+use Rattle.std.specs.Prelude.{slice_get, ◌==◌, nat_lt, if◌then◌else◌}
 use Rattle.std.specs.Bool.{Decides}
 use Rattle.std.specs.List.{AllByRecursion as Each}
 use Rattle.std.proofs.lemmas.Bool.{cases_lt, lt-ltb, le-ltb}
 use Rattle.std.proofs.lemmas.Bool.Decides.{Decides-eqb}
-use Rattle.std.proofs.lemmas.List.{map-append, length-map, take_more}
+use Rattle.std.proofs.lemmas.List.{map-append, take_more}
 use Rattle.std.proofs.lemmas.List.Elements.{filter_map-append}
 use Rattle.std.proofs.lemmas.List.Sums.{sum_by-append}
 use Rattle.std.proofs.lemmas.Option.{slice_get_within}
@@ -18,13 +18,13 @@ use Rattle.ap_net.specs.declared.net.Instance.{Instance}
 use Rattle.ap_net.specs.Names.{IsNew, IsNotNumbered, HasFresh, numbered}
 use Rattle.ap_net.specs.Cells.{IsNet, operands}
 use Rattle.ap_net.specs.Wiring.{IsSource, IsFree, IsWired, IsConnected, IsOrdered, Undriven, Unjoined, AreApart, Ranked, driven_among, driven_by, names_taken, taken_names, reset_of}
-use Rattle.ap_net.specs.Modules.{ModuleText, IsInstanceIn, nets_of, outputs, module_named, Connects, port_by, ports_among, instance_of}
-use Rattle.ap_net.specs.Opened.{SolvesPart, SolveParts, OrdersPart, Follows, IsOpenOrder, AreOrdered}
-use Rattle.ap_net.specs.Draft.{Draft, Extends, OpensOn, Opens, GrowsUp, Adds, Closes, Makes, SettlesDraft, SettlesOpen, names_of, wire_count, is_wire}
+use Rattle.ap_net.specs.Modules.{ModuleText, IsInstanceIn, nets_of, outputs, module_named, port_by, ports_among}
+use Rattle.ap_net.specs.Opened.{SolvesPart, OrdersPart, Follows, IsOpenOrder, AreOrdered}
+use Rattle.ap_net.specs.Draft.{Draft, Extends, OpensOn, Opens, GrowsUp, Adds, Closes, Makes, SettlesOpen, names_of, wire_count, is_wire}
 use Rattle.ap_net.specs.Placing.{Places, output_widths, input_widths, wires_from, fresh_nets, merged, output_wires, placed_instance, with_placed}
-use Rattle.ap_net.proofs.Lists.{All-join, All-front, All-back, All-from, All-both, All-at, get_left, get_end, get_either, some_same}
-use Rattle.ap_net.proofs.Wired.{IsNet-more, IsNet-end, number-IsNet, declared, wire_count-push}
-use Rattle.ap_net.proofs.Connected.{names_taken-declare, driven_by-append, driven_within, IsNew-taken, CanFresh-fresh}
+use Rattle.ap_net.proofs.Lists.{All-join, All-front, All-back, All-from, All-both, get_left, get_end, get_either, some_same}
+use Rattle.ap_net.proofs.Wired.{IsNet-more, IsNet-end, number-IsNet, declared}
+use Rattle.ap_net.proofs.Connected.{driven_by-append, driven_within}
 use Rattle.ap_net.proofs.Drafts.{Settles-before, IsOpenOrder-agree, Adds-trans, Closes-trans, one_more_net}
 use Rattle.ap_net.proofs.Parts.{All-named, port_at}
 use Rattle.ap_net.proofs.Numbering.{count_cons}

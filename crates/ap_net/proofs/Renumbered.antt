@@ -12,7 +12,7 @@ use Rattle.ap_net.specs.declared.net.Next.{Next}
 use Rattle.ap_net.specs.declared.net.Instance.{Instance}
 use Rattle.ap_net.specs.Names.{IsNetName, IsNew, AreDistinct}
 use Rattle.ap_net.specs.Cells.{operands, widths_of, IsNet, CellFits, cell_value}
-use Rattle.ap_net.specs.Wiring.{reset_of, IsFree, Undriven, AreApart, driven_among, driven_by, names_taken, taken_names, DrivenOnce, ClockedOnce, NextFits, IsWired, IsConnected, IsDriven, Holds, Settles, Ranked}
+use Rattle.ap_net.specs.Wiring.{reset_of, IsFree, Undriven, AreApart, driven_among, driven_by, taken_names, DrivenOnce, ClockedOnce, NextFits, IsWired, IsConnected, IsDriven, Holds, Settles, Ranked}
 use Rattle.ap_net.specs.Modules.{placed, cell_placed, assign_placed, next_placed, instance_placed}
 use Rattle.ap_net.specs.Places.{place_by}
 use Rattle.ap_net.proofs.Lists.{All-from, All-both, All-at, All-front, All-back, All-join, All-map, All-unmap, Each-at, map-map, some_same}

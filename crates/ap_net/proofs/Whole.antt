@@ -1,34 +1,30 @@
--- What an opened netlist keeps: its equations are well formed, no net has two, every net that is no source has one, and names
--- differ within a part.
-use Rattle.std.proofs.Common.{◌≡◌, ◌≢◌, ℕ, suc, zero, ◌+◌, ◌-◌, ◌<◌, ◌≤◌, List, [], ◌∷◌, ◌++◌, length, map, Option, Some, None, Bool, true, false, refl, sym, ap, subst, ◌∙◌, arith, inl, inr, ⊎_elim, append_assoc, length-append, zero-add, add-zero}
+-- What an opened netlist keeps: its equations are well formed, no net has two, and its registers and their drivers are those of
+-- the modules.
+use Rattle.std.proofs.Common.{◌≡◌, ◌≢◌, ℕ, suc, zero, ◌+◌, ◌<◌, ◌≤◌, ◌^◌, List, [], ◌∷◌, ◌++◌, length, map, Option, Some, None, Bool, true, false, refl, sym, ap, subst, ◌∙◌, arith, length-append}
 use Rattle.std.specs.Prelude.{slice_get, option_map, if◌then◌else◌}
 use Rattle.std.specs.List.{AllByRecursion as Each}
 use Rattle.std.proofs.lemmas.List.{map-append, length-map}
-use Rattle.std.proofs.lemmas.Option.{slice_get_within, slice_get-map}
+use Rattle.std.proofs.lemmas.Option.{slice_get-map}
 use Rattle.ap_net.specs.declared.cell.Wire.{Wire}
 use Rattle.ap_net.specs.declared.cell.Cell.{Cell}
 use Rattle.ap_net.specs.declared.cell.Cell.TheVariants as cell
 use Rattle.ap_net.specs.declared.net.Role.{Role}
 use Rattle.ap_net.specs.declared.net.Role.TheVariants as role
 use Rattle.ap_net.specs.declared.net.ModuleNet.{ModuleNet}
-use Rattle.ap_net.specs.declared.net.FlatNet.{FlatNet}
 use Rattle.ap_net.specs.declared.net.Port.{Port}
-use Rattle.ap_net.specs.declared.net.Net.{Net}
-use Rattle.ap_net.specs.declared.net.RegNet.{RegNet}
 use Rattle.ap_net.specs.declared.net.Assign.{Assign}
 use Rattle.ap_net.specs.declared.net.Next.{Next}
 use Rattle.ap_net.specs.declared.net.Instance.{Instance}
 use Rattle.ap_net.specs.declared.net.Join.{Join}
 use Rattle.ap_net.specs.Cells.{IsNet, CellFits}
-use Rattle.ap_net.specs.Wiring.{IsSource, IsFree, Undriven, DrivenOnce, ClockedOnce, NextFits, AreApart, driven_among, driven_by, taken_names}
-use Rattle.ap_net.specs.Modules.{ModuleText, IsModule, nets_of, module_named, Connects, IsInstanceIn, port_net, wire_net, reg_net, placed, cell_placed, assign_placed, next_placed}
-use Rattle.ap_net.specs.Flat.{IsFlat, IsFlatDriven, NamesDiffer, AreClocked, inner_role, top_net, part_net, plain_net, plain_nets, nets_in, assigns_in, nexts_in, part_size, part_nets, part_assigns, part_nexts, part_joins, joins_from, base_from, base_of, opened_over, join_assign, equations}
-use Rattle.ap_net.proofs.Lists.{All-join, All-front, All-back, All-from, All-both, All-at, All-map, All-unmap, Each-at, get_left, get_right, get_either, some_same}
-use Rattle.ap_net.proofs.Wired.{number-IsNet, IsNet-more, CellFits-more}
+use Rattle.ap_net.specs.Wiring.{IsSource, reset_of, IsFree, DrivenOnce, ClockedOnce, NextFits, AreApart, driven_among, driven_by}
+use Rattle.ap_net.specs.Modules.{ModuleText, IsModule, nets_of, module_named, IsInstanceIn, port_net, wire_net, reg_net, placed, cell_placed, assign_placed, next_placed}
+use Rattle.ap_net.specs.Flat.{IsFlat, AreClocked, inner_role, plain_nets, nets_in, assigns_in, nexts_in, part_size, part_assigns, part_nexts, part_joins, joins_from, base_from, base_of, opened_over, join_assign, equations}
+use Rattle.ap_net.proofs.Lists.{All-join, All-front, All-back, All-from, All-both, All-at, All-map, Each-at, some_same}
+use Rattle.ap_net.proofs.Wired.{number-IsNet, CellFits-more}
 use Rattle.ap_net.proofs.Connected.{driven_within}
-use Rattle.ap_net.proofs.Renumbered.{some_within, names_differ}
-use Rattle.ap_net.proofs.Finished.{unmapped}
-use Rattle.ap_net.proofs.Parts.{inner_net, nets_by, whole_nets, plain-opened, parts_stand, part_net_at, own_net_at, net_of_width, width_at, part_assigns-all, part_joins-all, part_joins-at, joins_from-all, joins_from-at, join_of, All-named, port_at, part_size-found}
+use Rattle.ap_net.proofs.Renumbered.{some_within}
+use Rattle.ap_net.proofs.Parts.{inner_net, nets_by, plain-opened, parts_stand, part_net_at, own_net_at, net_of_width, width_at, part_assigns-all, part_joins-all, joins_from-all, join_of, All-named, port_at, part_size-found}
 
 -- a cell over nets that stand elsewhere
 CellFits-by : (olds news : List ModuleNet) (place : ℕ → ℕ) → ((w : Wire) → IsNet olds w → IsNet news (placed place w)) → (w : ℕ) (c : Cell) → CellFits olds w c → CellFits news w (cell_placed place c)
@@ -46,6 +42,33 @@ inner_source role.Input s = absurd s
 inner_source role.Output s = absurd s
 inner_source role.Plain s = absurd s
 inner_source (role.Register reset) s = tt
+
+-- a register of a module is one of its instance, and its reset value stays
+inner_register : (r : Role) → r ≡ role.Register (reset_of r) → inner_role r ≡ role.Register (reset_of (inner_role r))
+inner_register role.Input e = cc
+inner_register role.Output e = cc
+inner_register role.Plain e = cc
+inner_register (role.Register reset) e = refl
+
+inner_reset : (r : Role) → reset_of (inner_role r) ≡ reset_of r
+inner_reset role.Input = refl
+inner_reset role.Output = refl
+inner_reset role.Plain = refl
+inner_reset (role.Register reset) = refl
+
+-- the reset values of instances fit, since those of their modules do
+part_resets : (modules : List ModuleText) (instances : List Instance) → Each IsModule modules → Each (λ (n : ModuleNet). reset_of n.role < 2 ^ n.width) (nets_by inner_net modules instances)
+part_resets modules [] each = tt
+part_resets modules (i ∷ instances) each =
+    All-join (λ (n : ModuleNet). reset_of n.role < 2 ^ n.width) (map inner_net (nets_in (module_named modules i.module))) (nets_by inner_net modules instances)
+    (All-map (λ (n : ModuleNet). reset_of n.role < 2 ^ n.width) inner_net (nets_in (module_named modules i.module)) (go (module_named modules i.module) refl))
+    (part_resets modules instances each)
+  where
+    go : (o : Option ModuleText) → module_named modules i.module ≡ o → Each (λ (n : ModuleNet). reset_of (inner_role n.role) < 2 ^ n.width) (nets_in o)
+    go None found = tt
+    go (Some m) found =
+        All-from (λ (n : ModuleNet). reset_of n.role < 2 ^ n.width) (λ (n : ModuleNet). reset_of (inner_role n.role) < 2 ^ n.width)
+        (λ n lt. subst (λ value. value < 2 ^ n.width) (sym (inner_reset n.role)) lt) (nets_of m) (All-named IsModule modules i.module m each found).0.wired.resets
 
 -- a port of an instance is no source
 port_no_source : (b : Bool) → IsSource (inner_role (if b then role.Output else role.Input)) → ⊥
@@ -424,3 +447,42 @@ module _ (modules : List ModuleText) (top : ModuleText) (each : Each IsModule mo
             (λ k j at. Each-at (λ (y : Next). base_from modules count top.instances k + y.register.number ≢ x.register.number) (nexts_in (module_named modules j.module)) (λ q y there e. let le = base_from-le modules count top.instances k in omega arith)))
             top.nexts kept.wired.registers);
       }
+
+  -- a register's driver of top, and one of an instance
+  own-NextFits : (x : Next) → NextFits (nets_of top) x → NextFits nets x
+  own-NextFits x h = record {
+    register = own-IsNet x.register h.register;
+    clocked = λ net at.
+        let own = some_within (nets_of top) x.register.number (number-IsNet (nets_of top) x.register h.register) in
+        let same : own.0 ≡ net = some_same (sym (own_net_at modules top x.register.number own.0 own.1) ∙ at) in
+        h.clocked net (own.1 ∙ ap Some same);
+    from = own-IsNet x.from h.from;
+    same = h.same;
+  }
+
+  part-NextFits : (k : ℕ) (i : Instance) (m : ModuleText) → slice_get top.instances k ≡ Some i → module_named modules i.module ≡ Some m → (x : Next) → NextFits (nets_of m) x → NextFits nets (next_placed (λ n. base_of modules top k + n) x)
+  part-NextFits k i m at found x h = record {
+    register = part-IsNet k i m at found x.register h.register;
+    clocked = λ net there.
+        let own = some_within (nets_of m) x.register.number (number-IsNet (nets_of m) x.register h.register) in
+        let same : inner_net own.0 ≡ net = some_same (sym (part_net_at modules top k i m at found x.register.number own.0 own.1) ∙ there) in
+        subst (λ (y : ModuleNet). y.role ≡ role.Register (reset_of y.role)) same (inner_register (own.0).role (h.clocked own.0 own.1));
+    from = part-IsNet k i m at found x.from h.from;
+    same = h.same;
+  }
+
+  -- every register's driver is of a register of the whole, and takes a net of its width
+  pub opened-registers : Each (NextFits nets) (opened_over modules top).nexts
+  opened-registers =
+      All-join (NextFits nets) top.nexts (part_nexts modules count top.instances) (All-from (NextFits (nets_of top)) (NextFits nets) own-NextFits top.nexts kept.wired.registers)
+      (part_nexts-all (NextFits nets) modules count top.instances (λ k i at.
+      let there = All-at (IsInstanceIn modules) top.instances k i within at in
+      let kept' = kept_in modules i each there in
+      subst (λ (o : Option ModuleText). Each (λ (x : Next). NextFits nets (next_placed (λ n. base_of modules top k + n) x)) (nexts_in o)) (sym there.found)
+      (All-from (NextFits (nets_of there.whole)) (λ (x : Next). NextFits nets (next_placed (λ n. base_of modules top k + n) x)) (part-NextFits k i there.whole at there.found) (there.whole).nexts kept'.wired.registers)))
+
+  -- every reset value fits
+  pub opened-resets : Each (λ (n : ModuleNet). reset_of n.role < 2 ^ n.width) nets
+  opened-resets =
+      subst (Each (λ (n : ModuleNet). reset_of n.role < 2 ^ n.width)) (sym (plain-opened modules top))
+      (All-join (λ (n : ModuleNet). reset_of n.role < 2 ^ n.width) (nets_of top) (nets_by inner_net modules top.instances) kept.wired.resets (part_resets modules top.instances each))

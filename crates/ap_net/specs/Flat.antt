@@ -1,5 +1,5 @@
 -- A netlist with its instances opened: the nets of top and of each instance side by side, and the solutions of its equations.
-use Rattle.std.specs.Prelude.{◌≡◌, ◌≢◌, ℕ, suc, zero, ◌+◌, ◌-◌, ◌<◌, ◌==◌, ◌&&◌, nat_lt, List, [], ◌∷◌, ◌++◌, length, map, slice_get, slice_index, Option, Some, None, Bool, true, false, if◌then◌else◌}
+use Rattle.std.specs.Prelude.{◌≡◌, ℕ, suc, zero, ◌+◌, ◌-◌, ◌^◌, ◌<◌, ◌==◌, ◌&&◌, nat_lt, List, [], ◌∷◌, ◌++◌, length, map, slice_get, slice_index, Option, Some, None, Bool, true, false, if◌then◌else◌}
 use Rattle.std.specs.Str.{bytes_eq}
 use Rattle.std.specs.List.{AllByRecursion as Each}
 use Rattle.ap_net.specs.declared.cell.Wire.{Wire}
@@ -14,7 +14,7 @@ use Rattle.ap_net.specs.declared.net.Next.{Next}
 use Rattle.ap_net.specs.declared.net.Instance.{Instance}
 use Rattle.ap_net.specs.declared.net.Join.{Join}
 use Rattle.ap_net.specs.Cells.{IsNet, CellFits}
-use Rattle.ap_net.specs.Wiring.{Settles, Undriven, DrivenOnce, ClockedOnce, IsFree, IsSource}
+use Rattle.ap_net.specs.Wiring.{Settles, Undriven, DrivenOnce, ClockedOnce, NextFits, IsFree, IsSource, reset_of}
 use Rattle.ap_net.specs.Modules.{ModuleText, IsNetlist, nets_of, module_named, last_module, earlier, assign_placed, next_placed, reset_value}
 
 -- The parts' names, the nets of all parts in one list and numbered through it, what drives them, and the connections.
@@ -210,12 +210,14 @@ abbrev pub RegistersAreFound : Type 0
 RegistersAreFound = (f : Flat) → NamesDiffer f.nets → AreClocked f → (registers : List ℕ) → length registers ≡ length f.nexts
     → (k : ℕ) (x : Next) (net : FlatNet) → slice_get f.nexts k ≡ Some x → slice_get f.nets x.register.number ≡ Some net → register_in net.part f registers net.name ≡ slice_index registers k
 
--- what every opened netlist keeps
+-- what every opened netlist keeps; the driver of a register takes a declared net of the register's width, and reset values fit
 pub record IsOpenNetlist (f : Flat) : Type 0 where
   pub flat : IsFlat f
   pub driven : IsFlatDriven f
   pub names : NamesDiffer f.nets
   pub clocked : AreClocked f
+  pub registers : Each (NextFits (plain_nets f.nets)) f.nexts
+  pub resets : Each (λ (n : ModuleNet). reset_of n.role < 2 ^ n.width) (plain_nets f.nets)
 
 abbrev pub NetlistsOpen : Type 0
 NetlistsOpen = (modules : List ModuleText) → IsNetlist modules → IsOpenNetlist (opened modules)

@@ -7,6 +7,7 @@ pub mod Draft
 pub mod Places
 pub mod Placing
 pub mod Flat
+pub mod Registers
 pub mod Finished
 pub mod Examples
 pub mod Outside

@@ -1,6 +1,6 @@
 -- What instances add to the equations of a module and to the order of its nets. The nets of an instance are those of its module,
 -- under the module's own numbers; its ports have the first of them.
-use Rattle.std.specs.Prelude.{◌≡◌, ℕ, ◌<◌, List, slice_get, Option, Some, Bool, true, false}
+use Rattle.std.specs.Prelude.{◌≡◌, ℕ, ◌<◌, List, slice_get, Some, Bool, true, false}
 use Rattle.std.specs.List.{AllByRecursion as Each}
 use Rattle.ap_net.specs.declared.cell.Wire.{Wire}
 use Rattle.ap_net.specs.declared.net.Assign.{Assign}

@@ -1,4 +1,3 @@
-use Rattle.std.proofs.Common.{◌≡◌}
 use Rattle.ap_net.proofs.Placing.{Left, Merging}
 use Rattle.ap_net.proofs.builder.connected.Given as goal
 

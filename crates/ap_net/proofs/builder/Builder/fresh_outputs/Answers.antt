@@ -1,9 +1,8 @@
-use Rattle.std.proofs.Common.{◌≡◌, ◌<◌, ◌^◌, ◌≤◌, ℕ, ◌++◌, ◌∷◌, [], List, length, take, refl, sym, ap, subst, ◌∙◌, arith}
-use Rattle.ap_net.specs.declared.cell.Wire.{Wire}
+use Rattle.std.proofs.Common.{ℕ, ◌++◌, ◌∷◌, [], List, length, take, sym, ap, ◌∙◌}
 use Rattle.ap_net.specs.declared.net.ModuleNet.{ModuleNet}
 use Rattle.ap_net.specs.declared.net.Role.TheVariants as role
-use Rattle.ap_net.specs.Names.{IsNew, numbered}
-use Rattle.ap_net.specs.Draft.{Draft, CanFresh, names_of, wire_count}
+use Rattle.ap_net.specs.Names.{numbered}
+use Rattle.ap_net.specs.Draft.{Draft, wire_count}
 use Rattle.ap_net.specs.Placing.{output_widths, wires_from, fresh_nets}
 use Rattle.ap_net.proofs.Placing.{widths_skip, nets_next, wires_next}
 use Rattle.ap_net.proofs.builder.Builder.fresh_outputs.Goals as goal

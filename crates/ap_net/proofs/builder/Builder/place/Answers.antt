@@ -1,14 +1,11 @@
-use Rattle.std.proofs.Common.{◌≡◌, ℕ, ◌++◌, ◌∷◌, [], List, length, map, refl, sym, ap, subst, ◌∙◌, rules}
-use Rattle.std.specs.List.{AllByRecursion as Each}
-use Rattle.ap_net.specs.declared.cell.Wire.{Wire}
+use Rattle.std.proofs.Common.{◌≡◌, ℕ, ◌++◌, ◌∷◌, [], List, length, map, refl, sym, ap, subst, ◌∙◌}
 use Rattle.ap_net.specs.declared.net.Port.{Port}
 use Rattle.ap_net.specs.declared.net.Instance.{Instance}
 use Rattle.ap_net.specs.Names.{IsNew, IsNotNumbered}
-use Rattle.ap_net.specs.Cells.{IsNet}
 use Rattle.ap_net.specs.Wiring.{IsWired, IsConnected}
 use Rattle.ap_net.specs.Modules.{ModuleText, outputs, instance_of}
 use Rattle.ap_net.specs.Draft.{Draft, CanFresh, names_of, wire_count}
-use Rattle.ap_net.specs.Placing.{Places, output_widths, wires_from, fresh_nets, merged, output_wires, placed_instance, with_placed}
+use Rattle.ap_net.specs.Placing.{output_widths, wires_from, fresh_nets, merged, output_wires, placed_instance, with_placed}
 use Rattle.ap_net.proofs.Among.{ports_within}
 use Rattle.ap_net.proofs.Placing.{length-wires_from, wires_from-IsNet, placed-widths, placed-nets, placed-free, placed-undriven, placed-unjoined, placed-apart, placed-Adds, placed-Closes, placed-ports, placed-value, Places-placed}
 use Rattle.ap_net.proofs.builder.Builder.place.Goals as goal
