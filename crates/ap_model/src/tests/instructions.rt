@@ -19,7 +19,7 @@ fn nop(alloc: Global) -> Result<Instr, NoMemory>
         format: 0,
         fixed: copied(alloc, &[Some(0), Some(0), Some(0), Some(0), Some(0)])?,
         fixed_mask: 0xffff,
-        fixed_value: 0x0,
+        fixed_value: 0,
         locals: Items::new(alloc),
         micros,
     })

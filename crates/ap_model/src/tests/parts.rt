@@ -20,10 +20,14 @@ pub(super) const IMM: Arg = Arg::Field(3);
 pub(super) const T: Arg = Arg::Field(3);
 
 /// A line with its number.
-pub(super) fn line(line: u32, stage: u32, act: Act) -> Micro
-    ensures { result ≡ line line stage act }
+pub(super) fn line(number: u32, stage: u32, act: Act) -> Micro
+    ensures { result ≡ line number stage act }
 {
-    Micro { line, stage, act }
+    Micro {
+        line: number,
+        stage,
+        act,
+    }
 }
 
 /// A read of a cell through one of the two ports.
@@ -50,7 +54,7 @@ pub(super) fn write(port: u32, value: Arg) -> Act
     }
 }
 
-/// An operation of a unit on two locals.
+/// An operation of a unit.
 pub(super) fn compute(unit: u32, op: u32, a: Arg, b: Arg) -> Act
     ensures { result ≡ act.Compute unit op a b }
 {
