@@ -2,7 +2,7 @@
 ghost use Rattle.std.specs.Prelude.{◌≡◌, [], ◌∷◌, IfOk};
 ghost use Rattle.ap_model.specs.Examples.{add, addi, bz, inp, jal, jr, ld, mul, nop, seti, sll, st};
 
-use super::parts::{IMM, RD, RS, T, compute, line, of_two_cells, read, write};
+use super::parts::{IMM, RD, RS, T, compute, line, of_two_cells, read, slice, write};
 use crate::plain::copied;
 use ap_bits::{Items, Name, NoMemory};
 use ap_desc::design::{Act, Arg, Instr};
@@ -111,15 +111,7 @@ fn ld(alloc: Global) -> Result<Instr, NoMemory>
             line(41, 1, read(0, RS)),
             line(42, 1, Act::Sext { width: 16, a: IMM }),
             line(43, 2, compute(0, 0, Arg::Local(0), Arg::Local(1))),
-            line(
-                44,
-                2,
-                Act::Slice {
-                    high: 7,
-                    low: 0,
-                    a: Arg::Local(2),
-                },
-            ),
+            line(44, 2, slice(7, 0, Arg::Local(2))),
             line(
                 45,
                 2,
@@ -154,15 +146,7 @@ fn st(alloc: Global) -> Result<Instr, NoMemory>
             line(50, 1, read(1, RD)),
             line(51, 1, Act::Sext { width: 16, a: IMM }),
             line(52, 2, compute(0, 0, Arg::Local(0), Arg::Local(2))),
-            line(
-                53,
-                2,
-                Act::Slice {
-                    high: 7,
-                    low: 0,
-                    a: Arg::Local(3),
-                },
-            ),
+            line(53, 2, slice(7, 0, Arg::Local(3))),
             line(
                 54,
                 2,
@@ -204,15 +188,7 @@ fn bz(alloc: Global) -> Result<Instr, NoMemory>
                 },
             ),
             line(59, 2, compute(0, 5, Arg::Local(0), Arg::Local(1))),
-            line(
-                60,
-                2,
-                Act::Slice {
-                    high: 0,
-                    low: 0,
-                    a: Arg::Local(2),
-                },
-            ),
+            line(60, 2, slice(0, 0, Arg::Local(2))),
             line(
                 61,
                 2,
@@ -274,15 +250,7 @@ fn jr(alloc: Global) -> Result<Instr, NoMemory>
         alloc,
         &[
             line(69, 1, read(0, RD)),
-            line(
-                70,
-                2,
-                Act::Slice {
-                    high: 5,
-                    low: 0,
-                    a: Arg::Local(0),
-                },
-            ),
+            line(70, 2, slice(5, 0, Arg::Local(0))),
             line(
                 71,
                 2,

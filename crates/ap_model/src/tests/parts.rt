@@ -61,6 +61,13 @@ pub(super) fn compute(unit: u32, op: u32, a: Arg, b: Arg) -> Act
     Act::Compute { unit, op, a, b }
 }
 
+/// The bits from `high` down to `low`.
+pub(super) fn slice(high: u32, low: u32, a: Arg) -> Act
+    ensures { result ≡ act.Slice high low a }
+{
+    Act::Slice { high, low, a }
+}
+
 /// The four lines from this one on that compute from two cells.
 pub(super) fn of_two_cells(alloc: Global, n: u32, what: Act) -> Result<Items<Micro>, NoMemory>
     requires { n ≤ 1000 }
