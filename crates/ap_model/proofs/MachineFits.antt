@@ -3,7 +3,7 @@ use Rattle.std.proofs.Common.{◌≡◌, ℕ, zero, suc, ◌+◌, ◌-◌, ◌�
 use Rattle.std.proofs.lemmas.Bool.{and_parts}
 use Rattle.std.specs.List.{AllByRecursion as Each, list_all}
 use Rattle.ap_bits.specs.declared.card.Card.{Card}
-use Rattle.ap_model.specs.Runnable.{IsRunnable, NoneInZero}
+use Rattle.ap_model.specs.Runnable.{IsRunnable}
 use Rattle.ap_desc.specs.Designs.{is_between, is_reg_within, width_at}
 use Rattle.ap_desc.specs.Widths.{file_width, mem_width, reg_width}
 use Rattle.ap_desc.specs.declared.design.Design.{Design}

@@ -19,3 +19,5 @@ pub use storage::{PortWrite, Storage, Storages, WritePort};
 
 #[cfg(test)]
 mod rows;
+#[cfg(test)]
+mod tests;

@@ -11,4 +11,6 @@ mod stalls;
 mod storages;
 mod values;
 
+#[cfg(test)]
+pub(crate) use lists::copied;
 pub use run::rows;

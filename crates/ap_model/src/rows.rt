@@ -9,11 +9,12 @@ ghost use Rattle.ap_model.specs.Sequence.{sequential};
 ghost use Rattle.ap_model.specs.ShownRows.{rows_of};
 
 /// The processor's numbers are sound, and its units are of the cards.
-fn sound_processor()
+pub(crate) fn sound_processor()
     ensures sound { IsSound processor }
     ensures cards { IsOfCards processor example_cards }
     ensures runs { IsRunnable processor example_cards }
     ensures two_ports { IsSound two_ports }
+    ensures two_ports_run { IsRunnable two_ports example_cards }
     ensures two_memories { IsSound two_memories }
 {}
 
