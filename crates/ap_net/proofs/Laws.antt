@@ -6,6 +6,6 @@ pub use Rattle.ap_net.proofs.Netlists.{named_once, earlier-push, last-push}
 pub use Rattle.ap_net.proofs.Found.{named_is}
 pub use Rattle.ap_net.proofs.Registers.{held_all, held_fits, after_fit, reset_fit, held_register}
 pub use Rattle.ap_net.proofs.Parts.{own_net_at, spread-own, spread-part}
-pub use Rattle.ap_net.proofs.Beside.{IsInstanceIn-placed, top_net_at, no_part_nexts, sources_of_top}
+pub use Rattle.ap_net.proofs.Beside.{IsInstanceIn-placed, top_net_at}
 
 pub ruleset laws = (IsNet-Adds, IsNet-Makes, CellFits-Adds, Adds-refl, Adds-trans, Makes-refl, Makes-trans)
