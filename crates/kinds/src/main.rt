@@ -2,7 +2,11 @@
 //! tools read it. Without such a kind or width it prints `usage`.
 #![tactic(auto)]
 
+ghost use Rattle.std.specs.Prelude.{IfNone, IfOk, IfSome};
 ghost use Rattle.ap_bits.specs.Cards.{FitsWidth};
+ghost use Rattle.ap_bits.specs.declared.card.Card.{Card};
+ghost use Rattle.ap_unit.specs.Shelves.{cards_of};
+ghost use Rattle.kinds.specs.Texts.{IsKindNamed, IsTextFor, IsUnitText};
 
 use ap_bits::NoMemory;
 use ap_comb::{Alu, Avg, Count, Shift};
@@ -17,33 +21,43 @@ use std::{env, io};
 /// The text of a unit of this kind and width.
 fn unit_text(alloc: Global, kind: &dyn UnitKind, w: u32) -> Result<Vec<u8>, NoMemory>
     requires { FitsWidth (card kind.now) w }
+    ensures { IfOk result (λ text. IsUnitText (card kind.now) w text.items) }
 {
     let mut out = Builder::new(alloc, b"top")?;
     kind.build(w, &mut out)?;
     let net = Netlist::of_top(alloc, out.finish()?)?;
+    net.rules();
     let mut text = Vec::new(alloc);
     write(alloc, &net, &mut text)?;
     Ok(text)
 }
 
-/// The text that two words ask for; none where the shelf has no kind of this name, or the kind no such width.
+/// The text of a unit of the kind of this name at this width; none exactly where the shelf has no kind of this name, or the
+/// kind no such width.
 fn text_for(
     alloc: Global,
     shelf: &Shelf,
     name: &str,
-    width: &str,
-) -> Result<Option<Vec<u8>>, NoMemory> {
+    w: u32,
+) -> Result<Option<Vec<u8>>, NoMemory>
+    ensures some {
+        let cards = cards_of (λ v x. (⟦<dyn UnitKind as UnitKind>⟧ v).card x) shelf.now in
+        IfOk result (λ found. IfSome found (λ text. IsTextFor cards name.now w text.items))
+    }
+    ensures none {
+        let cards = cards_of (λ v x. (⟦<dyn UnitKind as UnitKind>⟧ v).card x) shelf.now in
+        IfOk result (λ found. IfNone found ((c : Card) → IsKindNamed cards name.now c → FitsWidth c w → ⊥))
+    }
+{
     let Some(place) = shelf.find(name) else {
-        return Ok(None);
-    };
-    let Ok(w) = width.parse::<u32>() else {
         return Ok(None);
     };
     let kind = shelf.kind(place);
     if !kind.fits(w) {
         return Ok(None);
     }
-    Ok(Some(unit_text(alloc, kind, w)?))
+    let text = unit_text(alloc, kind, w)?;
+    Ok(Some(text))
 }
 
 /// The words after the program's name.
@@ -58,9 +72,11 @@ fn words(rt: &(impl Env + AllocGlobal)) -> io::Result<Vec<String>> {
 /// What is printed.
 fn printed(alloc: Global, shelf: &Shelf, words: &[String]) -> Result<String, NoMemory> {
     if let [name, width] = words {
-        if let Some(text) = text_for(alloc, shelf, name.as_str(), width.as_str())? {
-            if let Ok(text) = std::str::from_utf8(&text) {
-                return Ok(String::from_str(alloc, text)?);
+        if let Ok(w) = width.as_str().parse::<u32>() {
+            if let Some(text) = text_for(alloc, shelf, name.as_str(), w)? {
+                if let Ok(text) = std::str::from_utf8(&text) {
+                    return Ok(String::from_str(alloc, text)?);
+                }
             }
         }
     }
