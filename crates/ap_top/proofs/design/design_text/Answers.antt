@@ -1,5 +1,4 @@
-use Rattle.std.proofs.Common.{◌≡◌, ◌++◌, List, refl, ap, ◌∙◌}
-use Rattle.ap_net.specs.Modules.{ModuleText}
+use Rattle.std.proofs.Common.{ℕ, ◌++◌, List, refl, ap, ◌∙◌}
 use Rattle.ap_net.specs.Text.{netlist_text}
 use Rattle.ap_top.proofs.design.design_text.Goals as goal
 
@@ -10,7 +9,7 @@ returns g c =
     record {
       unit = made.unit;
       top = made.top;
-      spells = c.in_ok-write.ensures.ok ∙ ap (λ (l : List ℕ). l ++ netlist_text c.in_ok-netlist.netlist) c.new.ensures.items ∙ ap netlist_text made.both;
+      spells = c.in_ok-write.ensures.ok ∙ ap (λ (l : List ℕ). l ++ netlist_text c.in_ok-netlist.netlist) c.new-text.ensures.items ∙ ap netlist_text made.both;
       is_unit = made.is_unit;
       netlist = both.0;
       design = both.1;
