@@ -216,7 +216,6 @@ fn make_shown(
 
 /// Says what the registers take, and finishes the module.
 fn clocked(form: Form, number: u32, select: u32, circuit: Circuit) -> Result<Module, NoMemory>
-    requires form { IsForm form }
     requires shown { IsShown form number select circuit.out (nets_of circuit) }
     requires nexts { circuit.out.nexts ≡ [] }
     ensures { IfOk result (λ m. IsTop form number select m) }
