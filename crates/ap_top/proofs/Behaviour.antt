@@ -182,7 +182,7 @@ module _ (form : Form) (operation : Operation) (number select : ℕ) (same_numbe
       → register_named flat registers net.name ≡ slice_index registers k
   register_at registers count k x net at there =
       let stands : slice_get flat.nexts k ≡ Some (next_placed fin.place x) = ap (λ (l : List Next). slice_get l k) flat_nexts
-          ∙ get_front (map (next_placed fin.place) (four_nexts form nets)) unit_nexts k (next_placed fin.place x) (slice_get-map (next_placed fin.place) (four_nexts form nets) k ∙ ap (option_map (next_placed fin.place)) at) in
+      ∙ get_front (map (next_placed fin.place) (four_nexts form nets)) unit_nexts k (next_placed fin.place x) (slice_get-map (next_placed fin.place) (four_nexts form nets) k ∙ ap (option_map (next_placed fin.place)) at) in
       registers_found flat whole.names whole.clocked registers count k (next_placed fin.place x) (top_net net) stands
       (top_net_at modules m (fin.place x.register.number) net (placed_net x.register.number net (based x.register.number net there)))
 
@@ -262,7 +262,7 @@ module _ (form : Form) (operation : Operation) (number select : ℕ) (same_numbe
       map_both (NextFits (plain_nets flat.nets)) (λ (x : Next). (net : ModuleNet) × (slice_get (plain_nets flat.nets) x.register.number ≡ Some net) × IsSource net.role)
       (λ (x : Next). slice_index v x.register.number) (λ (x : Next). held flat.nexts r x.register.number) flat.nexts whole.registers (held_register (plain_nets flat.nets) flat.nexts whole.registers)
       (λ x fit source. solution.2 x.register.number source.0 source.1 source.2
-          ∙ given_other (fin.place 5) word (fin.place 6) (bit wait) (held flat.nexts r) x.register.number (no_register (fin.place 5) idata_at x fit) (no_register (fin.place 6) mwait_at x fit)) in (
+      ∙ given_other (fin.place 5) word (fin.place 6) (bit wait) (held flat.nexts r) x.register.number (no_register (fin.place 5) idata_at x fit) (no_register (fin.place 6) mwait_at x fit)) in (
         v,
         record { registers = map (λ (x : Next). slice_index v x.from.number) flat.nexts; mems = [] },
         record {

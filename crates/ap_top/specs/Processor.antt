@@ -36,7 +36,8 @@ pub record IsProcessor (operation : Operation) (form : Form) (f : Flat) : Type 0
   pub keeps : (image : Image) (trace : Trace) (c : ℕ) (states : ℕ → NetState) (valuations : ℕ → List ℕ) → Runs (outside_of form) f image trace c states valuations
       → (j : ℕ) → j ≤ c → Keeps f (states j) (over operation form image trace j)
 
--- the modules are the form's processor: the ports of the top module are those due, and the equations do what the machine does
+-- the modules are the form's processor with a unit that does the operation: the ports of the top module are those due, and the
+-- equations do what the machine does
 pub record IsDesign (operation : Operation) (form : Form) (modules : List ModuleText) : Type 0 where
   pub ports : top_ports modules ≡ ports_of (outside_of form)
   pub behaves : IsProcessor operation form (opened modules)

@@ -1,8 +1,8 @@
-use Rattle.std.proofs.Common.{◌≡◌, ◌≢◌, ◌∙◌, ◌++◌, ◌∷◌, [], List, refl, ap, sym}
+use Rattle.std.proofs.Common.{◌≢◌, ◌∙◌, ◌++◌, ◌∷◌, [], List, refl, ap, sym}
 use Rattle.std.specs.Prelude.{codes}
 use Rattle.ap_net.specs.declared.net.Port.{Port}
 use Rattle.ap_net.specs.Names.{IsNew}
-use Rattle.ap_net.specs.Draft.{SettlesOpen, names_of}
+use Rattle.ap_net.specs.Draft.{names_of}
 use Rattle.ap_net.specs.Modules.{ports_among}
 use Rattle.ap_net.specs.Outside.{output}
 use Rattle.ap_net.proofs.Laws.{Adds-trans, Closes-trans, IsNet-Adds, IsNew-is_new, IsNew-made, IsNotNumbered-other, net-Adds, ports_among-shown, SettlesOpen-before}

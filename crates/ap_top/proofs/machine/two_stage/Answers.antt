@@ -1,4 +1,4 @@
-use Rattle.std.proofs.Common.{refl, sym, subst, ◌∙◌}
+use Rattle.std.proofs.Common.{refl, sym, subst}
 use Rattle.ap_top.specs.FormUnit.{IsSeen}
 use Rattle.ap_top.specs.Base.{IsTop}
 use Rattle.ap_top.proofs.FormUnit.{form_unit, first_width, seen}
