@@ -1,4 +1,4 @@
-use Rattle.std.proofs.Common.{◌≡◌, ℕ, ◌+◌, ◌%◌, ◌^◌, [], ◌∷◌, refl, ap, ◌∙◌}
+use Rattle.std.proofs.Common.{◌≡◌, ℕ, ◌+◌, ◌%◌, ◌^◌, [], ◌∷◌, ap, ◌∙◌}
 use Rattle.ap_bits.proofs.TermValues.{term_values}
 use Rattle.ap_top.specs.Example.{example_operation, example_form, quiet, writing}
 use Rattle.ap_top.specs.Machine.{sum_of}
