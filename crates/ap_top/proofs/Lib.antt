@@ -10,3 +10,4 @@ pub mod TwoStage
 pub mod FormUnit
 pub mod Behaviour
 pub mod Sure
+pub mod Additions
