@@ -11,3 +11,4 @@ pub mod FormUnit
 pub mod Behaviour
 pub mod Sure
 pub mod Additions
+pub mod TestValues

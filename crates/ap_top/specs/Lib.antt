@@ -15,3 +15,4 @@ pub mod Endings
 pub mod Troubles
 pub mod Generate
 pub mod Example
+pub mod TestCards
