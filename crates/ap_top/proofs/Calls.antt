@@ -1,6 +1,7 @@
 -- The command that writes Verilog, as one row of the table: from its own input and output to those of its words.
 use Rattle.std.proofs.Common.{◌≡◌, ◌≢◌, ℕ, List, [], ◌∷◌, length, get_or, map, Some, None, Option, Result, Ok, Err, sym, ap, subst, ◌∙◌, arith}
 use Rattle.std.specs.Prelude.{OnOk, IfErr}
+use Rattle.ap_bits.specs.declared.card.Card.{Card}
 use Rattle.ap_desk.specs.Files.{Files, Goes}
 use Rattle.ap_top.specs.declared.command.Command.{Command}
 use Rattle.ap_top.specs.declared.command.Command.TheVariants.{Gen}
@@ -40,12 +41,13 @@ goes_map P Q h None (Some b) p = absurd p
 goes_map P Q h (Some a) None p = absurd p
 goes_map P Q h (Some a) (Some b) p = h a b p
 
-pub gen_done : {E : Type 0} (result : Result (Unit {0}) E) (words : List (List ℕ)) (d v : List ℕ) (a b : Option Files) → IsCall Gen words → inputs_of Gen words ≡ gen_sources d → outputs_of Gen words ≡ gen_targets v → OnOk result (Goes (FromGood Writes (gen_sources d) (gen_targets v)) a b) → OnOk result (Goes (IsDone words) a b)
-gen_done (Ok value) words d v a b call from to done = goes_map _ _ (λ old new h. (Gen, call, subst (λ s. FromGood Writes s (outputs_of Gen words) old new) (sym from) (subst (λ t. FromGood Writes (gen_sources d) t old new) (sym to) h))) a b done
-gen_done (Err fault) words d v a b call from to done = done
+module _ (cards : List Card) where
+  pub gen_done : {E : Type 0} (result : Result (Unit {0}) E) (words : List (List ℕ)) (d v : List ℕ) (a b : Option Files) → IsCall Gen words → inputs_of Gen words ≡ gen_sources d → outputs_of Gen words ≡ gen_targets v → OnOk result (Goes (FromGood cards Writes (gen_sources d) (gen_targets v)) a b) → OnOk result (Goes (IsDone cards words) a b)
+  gen_done (Ok value) words d v a b call from to done = goes_map _ _ (λ old new h. (Gen, call, subst (λ s. FromGood cards Writes s (outputs_of Gen words) old new) (sym from) (subst (λ t. FromGood cards Writes (gen_sources d) t old new) (sym to) h))) a b done
+  gen_done (Err fault) words d v a b call from to done = done
 
-pub gen_stopped : (result : Result (Unit {0}) Stop) (words : List (List ℕ)) (d v : List ℕ) (a b : Option Files) → IsCall Gen words → inputs_of Gen words ≡ gen_sources d → outputs_of Gen words ≡ gen_targets v → IfErr result (StopsOn (gen_sources d) (gen_targets v) a b) → IfErr result (StopsAs words a b)
-gen_stopped (Ok value) words d v a b call from to stopped = tt
-gen_stopped (Err (Refused Usage)) words d v a b call from to stopped = absurd stopped.1
-gen_stopped (Err (Refused (Description judged))) words d v a b call from to stopped = (stopped.0, (Gen, call, subst (λ s. IsDueOf s a (Description judged)) (sym from) stopped.1))
-gen_stopped (Err (Broken trouble)) words d v a b call from to stopped = goes_map _ _ (λ old new h. (Gen, call, subst (λ s. IsBegunOn s (outputs_of Gen words) old new) (sym from) (subst (λ t. IsBegunOn (gen_sources d) t old new) (sym to) h))) a b stopped
+  pub gen_stopped : (result : Result (Unit {0}) Stop) (words : List (List ℕ)) (d v : List ℕ) (a b : Option Files) → IsCall Gen words → inputs_of Gen words ≡ gen_sources d → outputs_of Gen words ≡ gen_targets v → IfErr result (StopsOn cards (gen_sources d) (gen_targets v) a b) → IfErr result (StopsAs cards words a b)
+  gen_stopped (Ok value) words d v a b call from to stopped = tt
+  gen_stopped (Err (Refused Usage)) words d v a b call from to stopped = absurd stopped.1
+  gen_stopped (Err (Refused (Description judged))) words d v a b call from to stopped = (stopped.0, (Gen, call, subst (λ s. IsDueOf cards s a (Description judged)) (sym from) stopped.1))
+  gen_stopped (Err (Broken trouble)) words d v a b call from to stopped = goes_map _ _ (λ old new h. (Gen, call, subst (λ s. IsBegunOn cards s (outputs_of Gen words) old new) (sym from) (subst (λ t. IsBegunOn cards (gen_sources d) t old new) (sym to) h))) a b stopped

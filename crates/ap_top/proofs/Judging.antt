@@ -2,6 +2,7 @@
 use Rattle.std.proofs.Common.{◌≡◌, ℕ, ◌<◌, List, [], ◌∷◌, ◌++◌, length, take, Option, Some, None, refl, sym, subst, ◌∙◌, arith, inl, inr, ⊎_elim, append_assoc}
 use Rattle.std.specs.Prelude.{◌⊎◌, IfSome, IsSomeAnd}
 use Rattle.std.proofs.lemmas.Bool.{cases_lt}
+use Rattle.ap_bits.specs.declared.card.Card.{Card}
 use Rattle.ap_text.specs.Lines.{TextLine, lines_of}
 use Rattle.ap_desc.specs.declared.fault.Fault.{Fault}
 use Rattle.ap_desc.specs.declared.fault.Fault.TheVariants as f
@@ -19,9 +20,10 @@ use Rattle.ap_top.specs.declared.form.ReadFault.{ReadFault}
 use Rattle.ap_top.specs.declared.form.ReadFault.TheVariants as reading
 use Rattle.ap_top.specs.declared.refusal.Refusal.{Refusal}
 use Rattle.ap_top.specs.declared.refusal.Refusal.TheVariants.{Usage, Description}
+use Rattle.ap_top.specs.Additions.{Operation, IsAddition}
 use Rattle.ap_top.specs.DesignText.{IsDesignText}
 use Rattle.ap_top.specs.Endings.{Answers, IsDone}
-use Rattle.ap_top.specs.Form.{AreLines, HasFault, IsDescription, IsForm, IsLine, IsNotBuiltAt, IsReadFault, Token, first_form}
+use Rattle.ap_top.specs.Form.{AreLines, HasAddition, HasFault, IsDescription, IsForm, IsLine, IsNotBuiltAt, IsReadFault, Token, first_form}
 use Rattle.ap_top.specs.Generate.{gen_sources, gen_targets}
 use Rattle.ap_top.specs.Inputs as inputs
 use Rattle.ap_top.specs.Inputs.{AreGood, HasGoodInputs, IsDue, IsGood, IsRefused, RefusesOne, Source, inputs_of, with_text}
@@ -30,132 +32,133 @@ use Rattle.ap_top.specs.Refusals.{IsOrMemory, refusal_status, stop_of}
 use Rattle.ap_top.specs.Troubles.{StopsOn}
 use Rattle.ap_top.proofs.Matching.{lengths_of}
 
--- the first lines of a form's lines begin the form
-front_begins : (form : Form) (dues : List (List Token)) (front rest : List TextLine) → AreLines form dues (front ++ rest) → AreLines form (take (length front) dues) front
-front_begins form dues [] rest h = tt
-front_begins form [] (line ∷ front) rest h = absurd h
-front_begins form (due ∷ dues) (line ∷ front) rest h = (h.0, front_begins form dues front rest h.1)
+module _ (cards : List Card) where
+  -- the first lines of a form's lines begin the form
+  front_begins : (form : Form) (dues : List (List Token)) (front rest : List TextLine) → AreLines form dues (front ++ rest) → AreLines form (take (length front) dues) front
+  front_begins form dues [] rest h = tt
+  front_begins form [] (line ∷ front) rest h = absurd h
+  front_begins form (due ∷ dues) (line ∷ front) rest h = (h.0, front_begins form dues front rest h.1)
 
--- a text of the form isn't unbuilt anywhere
-built : (lines : List TextLine) (form : Form) (number : ℕ) → AreLines form first_form lines → IsForm form → IsNotBuiltAt lines number → ⊥
-built lines form number all ranges h = ⊎_elim
-    (λ wrong. wrong.ends (form, front_begins form first_form (wrong.before ++ wrong.line ∷ []) wrong.place.after (subst (λ (l : List TextLine). AreLines form first_form l) (wrong.place.parts ∙ sym (append_assoc wrong.before (wrong.line ∷ []) wrong.place.after)) all), ranges))
-    (λ few. let same = lengths_of (IsLine form) first_form lines all in let less = few.1.few in let wrong : ⊥ = omega arith in wrong)
-    h
+  -- a text of the form isn't unbuilt anywhere
+  built : (lines : List TextLine) (form : Form) (number : ℕ) → AreLines form first_form lines → IsForm form → HasAddition cards form.width → IsNotBuiltAt cards lines number → ⊥
+  built lines form number all ranges unit h = ⊎_elim
+      (λ wrong. wrong.ends (form, front_begins form first_form (wrong.before ++ wrong.line ∷ []) wrong.place.after (subst (λ (l : List TextLine). AreLines form first_form l) (wrong.place.parts ∙ sym (append_assoc wrong.before (wrong.line ∷ []) wrong.place.after)) all), ranges, λ _. unit))
+      (λ few. let same = lengths_of (IsLine form) first_form lines all in let less = few.1.few in let wrong : ⊥ = omega arith in wrong)
+      h
 
--- a description without fault has none
-good_not_refused : (text : List ℕ) (form : Form) (judged : Judged) → IsDescription text form → HasFault text judged → ⊥
-good_not_refused text form (judged.Refused refusal) good fault = good.faultless refusal.kind refusal.line fault.holds
-good_not_refused text form (judged.NotBuilt line) good fault = built (lines_of text) form line good.first.lines good.first.ranges fault.1
+  -- a description without fault has none
+  good_not_refused : (text : List ℕ) (form : Form) (judged : Judged) → IsDescription cards text form → HasFault cards text judged → ⊥
+  good_not_refused text form (judged.Refused refusal) good fault = good.faultless refusal.kind refusal.line fault.holds
+  good_not_refused text form (judged.NotBuilt line) good fault = built (lines_of text) form line good.first.lines good.first.ranges good.unit fault.1
 
-input_not_refused : (before : List (List ℕ)) (kind : Input) (text : List ℕ) (refusal : Refusal) → inputs.IsFaultless before kind text → IsRefused before kind text refusal → ⊥
-input_not_refused before input.Description text Usage good refused = refused
-input_not_refused before input.Description text (Description judged) good refused = good_not_refused text good.0 judged good.1 refused
+  input_not_refused : (before : List (List ℕ)) (kind : Input) (text : List ℕ) (refusal : Refusal) → inputs.IsFaultless cards before kind text → IsRefused cards before kind text refusal → ⊥
+  input_not_refused before input.Description text Usage good refused = refused
+  input_not_refused before input.Description text (Description judged) good refused = good_not_refused text good.0 judged good.1 refused
 
--- nor are inputs that are all good
-none_refused : (files : Files) (before : List (List ℕ)) (sources : List Source) (refusal : Refusal) → AreGood files before sources → RefusesOne files before sources refusal → ⊥
-none_refused files before [] refusal good refused = refused
-none_refused files before (source ∷ sources) refusal good refused = ⊎_elim
-    (λ here. input_not_refused before source.0 (content files source.1) refusal good.0.faultless here.1)
-    (λ later. none_refused files (with_text files before source) sources refusal good.1 later.1)
-    refused
+  -- nor are inputs that are all good
+  none_refused : (files : Files) (before : List (List ℕ)) (sources : List Source) (refusal : Refusal) → AreGood cards files before sources → RefusesOne cards files before sources refusal → ⊥
+  none_refused files before [] refusal good refused = refused
+  none_refused files before (source ∷ sources) refusal good refused = ⊎_elim
+      (λ here. input_not_refused before source.0 (content files source.1) refusal good.0.faultless here.1)
+      (λ later. none_refused files (with_text files before source) sources refusal good.1 later.1)
+      refused
 
-good_command : (words : List (List ℕ)) (files : Files) (command other : Command) (judged : Judged) → AreGood files [] (inputs_of command words) → RefusesOne files [] (inputs_of other words) (Description judged) → ⊥
-good_command words files Gen Gen judged good refused = none_refused files [] (inputs_of Gen words) (Description judged) good refused
+  good_command : (words : List (List ℕ)) (files : Files) (command other : Command) (judged : Judged) → AreGood cards files [] (inputs_of command words) → RefusesOne cards files [] (inputs_of other words) (Description judged) → ⊥
+  good_command words files Gen Gen judged good refused = none_refused files [] (inputs_of Gen words) (Description judged) good refused
 
--- a good command isn't refused,
-good_not_due : (words : List (List ℕ)) (files : Files) (refusal : Refusal) → HasGoodInputs words files → IsDue words (Some files) refusal → ⊥
-good_not_due words files Usage good due = due (good.0, good.1)
-good_not_due words files (Description judged) good due = good_command words files good.0 due.0 judged good.2 due.2
+  -- a good command isn't refused,
+  good_not_due : (words : List (List ℕ)) (files : Files) (refusal : Refusal) → HasGoodInputs cards words files → IsDue cards words (Some files) refusal → ⊥
+  good_not_due words files Usage good due = due (good.0, good.1)
+  good_not_due words files (Description judged) good due = good_command words files good.0 due.0 judged good.2 due.2
 
--- and a command that is refused has one refusal's status
-same_status : (words : List (List ℕ)) (told : Option Files) (one other : Refusal) → IsDue words told one → IsDue words told other → refusal_status one ≡ refusal_status other
-same_status words told Usage Usage h g = refl
-same_status words told Usage (Description judged) h g = absurd (h (g.0, g.1))
-same_status words told (Description judged) Usage h g = absurd (g (h.0, h.1))
-same_status words told (Description judged) (Description other) h g = refl
+  -- and a command that is refused has one refusal's status
+  same_status : (words : List (List ℕ)) (told : Option Files) (one other : Refusal) → IsDue cards words told one → IsDue cards words told other → refusal_status one ≡ refusal_status other
+  same_status words told Usage Usage h g = refl
+  same_status words told Usage (Description judged) h g = absurd (h (g.0, g.1))
+  same_status words told (Description judged) Usage h g = absurd (g (h.0, h.1))
+  same_status words told (Description judged) (Description other) h g = refl
 
-done_good : (words : List (List ℕ)) (old new : Files) → IsDone words old new → HasGoodInputs words old
-done_good words old new h = (h.0, h.1, h.2.0)
+  done_good : (words : List (List ℕ)) (old new : Files) → IsDone cards words old new → HasGoodInputs cards words old
+  done_good words old new h = (h.0, h.1, h.2.0)
 
--- what is answered where a refusal is due
-pub answers_due : (words : List (List ℕ)) (status : ℕ) (told told' : Option Files) (refusal : Refusal) → Answers words status told told' → IsSomeAnd told (λ files. IsDue words (Some files) refusal) → IsOrMemory (refusal_status refusal) status
-answers_due words status None told' refusal answers due = absurd due
-answers_due words status (Some files) None refusal answers due = ⊎_elim (λ done. absurd done.2) (λ refused. inl (refused.status_is ∙ same_status words (Some files) refused.refusal refusal refused.due due)) answers
-answers_due words status (Some files) (Some new) refusal answers due = ⊎_elim
-    (λ done. absurd (good_not_due words files refusal (done_good words files new done.2) due))
-    (λ refused. inl (refused.status_is ∙ same_status words (Some files) refused.refusal refusal refused.due due))
-    answers
+  -- what is answered where a refusal is due
+  pub answers_due : (words : List (List ℕ)) (status : ℕ) (told told' : Option Files) (refusal : Refusal) → Answers cards words status told told' → IsSomeAnd told (λ files. IsDue cards words (Some files) refusal) → IsOrMemory (refusal_status refusal) status
+  answers_due words status None told' refusal answers due = absurd due
+  answers_due words status (Some files) None refusal answers due = ⊎_elim (λ done. absurd done.2) (λ refused. inl (refused.status_is ∙ same_status words (Some files) refused.refusal refusal refused.due due)) answers
+  answers_due words status (Some files) (Some new) refusal answers due = ⊎_elim
+      (λ done. absurd (good_not_due words files refusal (done_good words files new done.2) due))
+      (λ refused. inl (refused.status_is ∙ same_status words (Some files) refused.refusal refusal refused.due due))
+      answers
 
--- and where the inputs are good
-pub answers_good : (words : List (List ℕ)) (status : ℕ) (told told' : Option Files) → Answers words status told told' → IsSomeAnd told (HasGoodInputs words) → IsOrMemory 0 status
-answers_good words status None told' answers good = absurd good
-answers_good words status (Some files) told' answers good = ⊎_elim (λ done. inl done.0) (λ refused. absurd (good_not_due words files refused.refusal good refused.due)) answers
+  -- and where the inputs are good
+  pub answers_good : (words : List (List ℕ)) (status : ℕ) (told told' : Option Files) → Answers cards words status told told' → IsSomeAnd told (HasGoodInputs cards words) → IsOrMemory 0 status
+  answers_good words status None told' answers good = absurd good
+  answers_good words status (Some files) told' answers good = ⊎_elim (λ done. inl done.0) (λ refused. absurd (good_not_due words files refused.refusal good refused.due)) answers
 
--- texts that are too long have the same faults
-long_faults : (one other : List ℕ) → description_limit < length one → description_limit < length other → (kind : Fault) (line : ℕ) → faults.HasFault one kind line → faults.HasFault other kind line
-long_faults one other long long' f.TooLong line h = (h.0, long')
-long_faults one other long long' _ line h = let short = h.0 in absurd (omega arith)
+  -- texts that are too long have the same faults
+  long_faults : (one other : List ℕ) → description_limit < length one → description_limit < length other → (kind : Fault) (line : ℕ) → faults.HasFault one kind line → faults.HasFault other kind line
+  long_faults one other long long' f.TooLong line h = (h.0, long')
+  long_faults one other long long' _ line h = let short = h.0 in absurd (omega arith)
 
-long_never : (text : List ℕ) → description_limit < length text → IsFaultless text → ⊥
-long_never text long none = none f.TooLong 0 (refl, long)
+  long_never : (text : List ℕ) → description_limit < length text → IsFaultless text → ⊥
+  long_never text long none = none f.TooLong 0 (refl, long)
 
--- the bytes that were read are the file, or both are too long
-read_same : (files : Files) (name bytes : List ℕ) → ReadsUpTo files name 1048576 bytes → (bytes ≡ content files name) ⊎ ((description_limit < length bytes) × (description_limit < length (content files name)))
-read_same files name bytes h = ⊎_elim (λ long. inr (h.longer.1 long, long)) (λ short. inl (h.whole short)) (cases_lt 1048576 (length (content files name)))
+  -- the bytes that were read are the file, or both are too long
+  read_same : (files : Files) (name bytes : List ℕ) → ReadsUpTo files name 1048576 bytes → (bytes ≡ content files name) ⊎ ((description_limit < length bytes) × (description_limit < length (content files name)))
+  read_same files name bytes h = ⊎_elim (λ long. inr (h.longer.1 long, long)) (λ short. inl (h.whole short)) (cases_lt 1048576 (length (content files name)))
 
-long_refused : (one other : List ℕ) (judged : Judged) → description_limit < length one → description_limit < length other → HasFault one judged → HasFault other judged
-long_refused one other (judged.Refused refusal) long long' h = record {
-  phase = h.phase;
-  holds = long_faults one other long long' refusal.kind refusal.line h.holds;
-  least = λ kind line fault. h.least kind line (long_faults other one long' long kind line fault);
-}
-long_refused one other (judged.NotBuilt line) long long' h = absurd (long_never one long h.0)
+  long_refused : (one other : List ℕ) (judged : Judged) → description_limit < length one → description_limit < length other → HasFault cards one judged → HasFault cards other judged
+  long_refused one other (judged.Refused refusal) long long' h = record {
+    phase = h.phase;
+    holds = long_faults one other long long' refusal.kind refusal.line h.holds;
+    least = λ kind line fault. h.least kind line (long_faults other one long' long kind line fault);
+  }
+  long_refused one other (judged.NotBuilt line) long long' h = absurd (long_never one long h.0)
 
-file_refused : (files : Files) (name bytes : List ℕ) (judged : Judged) → ReadsUpTo files name 1048576 bytes → HasFault bytes judged → HasFault (content files name) judged
-file_refused files name bytes judged h fault = ⊎_elim (λ e. subst (λ t. HasFault t judged) e fault) (λ long. long_refused bytes (content files name) judged long.0 long.1 fault) (read_same files name bytes h)
+  file_refused : (files : Files) (name bytes : List ℕ) (judged : Judged) → ReadsUpTo files name 1048576 bytes → HasFault cards bytes judged → HasFault cards (content files name) judged
+  file_refused files name bytes judged h fault = ⊎_elim (λ e. subst (λ t. HasFault cards t judged) e fault) (λ long. long_refused bytes (content files name) judged long.0 long.1 fault) (read_same files name bytes h)
 
-file_good : (files : Files) (name bytes : List ℕ) (form : Form) → ReadsUpTo files name 1048576 bytes → IsDescription bytes form → IsDescription (content files name) form
-file_good files name bytes form h good = ⊎_elim (λ e. subst (λ t. IsDescription t form) e good) (λ long. absurd (long_never bytes long.0 good.faultless)) (read_same files name bytes h)
+  file_good : (files : Files) (name bytes : List ℕ) (form : Form) → ReadsUpTo files name 1048576 bytes → IsDescription cards bytes form → IsDescription cards (content files name) form
+  file_good files name bytes form h good = ⊎_elim (λ e. subst (λ t. IsDescription cards t form) e good) (λ long. absurd (long_never bytes long.0 good.faultless)) (read_same files name bytes h)
 
-unchanged : (sources : List Source) (targets : List Target) (told told' : Option Files) → told' ≡ told → Goes (IsBegunOn sources targets) told told'
-unchanged sources targets told told' e = subst (λ (t : Option Files). Goes (IsBegunOn sources targets) told t) (sym e) (stayed told)
-  where
-    stayed : (told : Option Files) → Goes (IsBegunOn sources targets) told told
-    stayed None = tt
-    stayed (Some files) = inl refl
+  unchanged : (sources : List Source) (targets : List Target) (told told' : Option Files) → told' ≡ told → Goes (IsBegunOn cards sources targets) told told'
+  unchanged sources targets told told' e = subst (λ (t : Option Files). Goes (IsBegunOn cards sources targets) told t) (sym e) (stayed told)
+    where
+      stayed : (told : Option Files) → Goes (IsBegunOn cards sources targets) told told
+      stayed None = tt
+      stayed (Some files) = inl refl
 
--- judging stopped the work
-pub judged_stop : (told told' : Option Files) (d v bytes : List ℕ) (fault : ReadFault) → told' ≡ told → IfSome told (λ files. ReadsUpTo files d 1048576 bytes) → IsReadFault bytes fault → StopsOn (gen_sources d) (gen_targets v) told told' (stop_of fault)
-judged_stop None told' d v bytes (reading.Refused judged) e reads fault = (e, tt)
-judged_stop (Some files) told' d v bytes (reading.Refused judged) e reads fault = (e, inl (reads.there, file_refused files d bytes judged reads fault))
-judged_stop told told' d v bytes reading.NoMemory e reads fault = unchanged (gen_sources d) (gen_targets v) told told' e
+  -- judging stopped the work
+  pub judged_stop : (told told' : Option Files) (d v bytes : List ℕ) (fault : ReadFault) → told' ≡ told → IfSome told (λ files. ReadsUpTo files d 1048576 bytes) → IsReadFault cards bytes fault → StopsOn cards (gen_sources d) (gen_targets v) told told' (stop_of fault)
+  judged_stop None told' d v bytes (reading.Refused judged) e reads fault = (e, tt)
+  judged_stop (Some files) told' d v bytes (reading.Refused judged) e reads fault = (e, inl (reads.there, file_refused files d bytes judged reads fault))
+  judged_stop told told' d v bytes reading.NoMemory e reads fault = unchanged (gen_sources d) (gen_targets v) told told' e
 
-good_sources : (files : Files) (d bytes : List ℕ) (form : Form) → ReadsUpTo files d 1048576 bytes → IsDescription bytes form → AreGood files [] (gen_sources d)
-good_sources files d bytes form reads good = (record { there = reads.there; faultless = (form, file_good files d bytes form reads good) }, tt)
+  good_sources : (files : Files) (d bytes : List ℕ) (form : Form) → ReadsUpTo files d 1048576 bytes → IsDescription cards bytes form → AreGood cards files [] (gen_sources d)
+  good_sources files d bytes form reads good = (record { there = reads.there; faultless = (form, file_good files d bytes form reads good) }, tt)
 
-front_written : (files new : Files) (d v bytes text : List ℕ) (form : Form) → ReadsUpTo files d 1048576 bytes → IsDescription bytes form → IsDesignText form text → BecomesFrontOrStays v text files new → IsBegunOn (gen_sources d) (gen_targets v) files new
-front_written files new d v bytes text form reads good design h = ⊎_elim
-    (λ same. inl same)
-    (λ front. inr (good_sources files d bytes form reads good, inr (text, front.0, (form, file_good files d bytes form reads good, design), front.1)))
-    h
+  front_written : (files new : Files) (d v bytes text : List ℕ) (form : Form) → ReadsUpTo files d 1048576 bytes → IsDescription cards bytes form → (operation : Operation) → IsAddition cards form.width operation → IsDesignText operation form text → BecomesFrontOrStays v text files new → IsBegunOn cards (gen_sources d) (gen_targets v) files new
+  front_written files new d v bytes text form reads good operation adds design h = ⊎_elim
+      (λ same. inl same)
+      (λ front. inr (good_sources files d bytes form reads good, inr (text, front.0, (form, file_good files d bytes form reads good, operation, adds, design), front.1)))
+      h
 
--- writing stopped the work
-pub writing_stop : (told mid told' : Option Files) (d v bytes text : List ℕ) (form : Form) → mid ≡ told → IfSome told (λ files. ReadsUpTo files d 1048576 bytes) → IsDescription bytes form → IsDesignText form text → Goes (BecomesFrontOrStays v text) mid told' → Goes (IsBegunOn (gen_sources d) (gen_targets v)) told told'
-writing_stop told mid told' d v bytes text form e reads good design h = by_cases told told' reads (subst (λ (t : Option Files). Goes (BecomesFrontOrStays v text) t told') e h)
-  where
-    by_cases : (told told' : Option Files) → IfSome told (λ files. ReadsUpTo files d 1048576 bytes) → Goes (BecomesFrontOrStays v text) told told' → Goes (IsBegunOn (gen_sources d) (gen_targets v)) told told'
-    by_cases None None reads h = tt
-    by_cases None (Some new) reads h = absurd h
-    by_cases (Some files) None reads h = absurd h
-    by_cases (Some files) (Some new) reads h = front_written files new d v bytes text form reads good design h
+  -- writing stopped the work
+  pub writing_stop : (told mid told' : Option Files) (d v bytes text : List ℕ) (form : Form) → mid ≡ told → IfSome told (λ files. ReadsUpTo files d 1048576 bytes) → IsDescription cards bytes form → (operation : Operation) → IsAddition cards form.width operation → IsDesignText operation form text → Goes (BecomesFrontOrStays v text) mid told' → Goes (IsBegunOn cards (gen_sources d) (gen_targets v)) told told'
+  writing_stop told mid told' d v bytes text form e reads good operation adds design h = by_cases told told' reads (subst (λ (t : Option Files). Goes (BecomesFrontOrStays v text) t told') e h)
+    where
+      by_cases : (told told' : Option Files) → IfSome told (λ files. ReadsUpTo files d 1048576 bytes) → Goes (BecomesFrontOrStays v text) told told' → Goes (IsBegunOn cards (gen_sources d) (gen_targets v)) told told'
+      by_cases None None reads h = tt
+      by_cases None (Some new) reads h = absurd h
+      by_cases (Some files) None reads h = absurd h
+      by_cases (Some files) (Some new) reads h = front_written files new d v bytes text form reads good operation adds design h
 
--- all is written
-pub written : (told mid told' : Option Files) (d v bytes text : List ℕ) (form : Form) → mid ≡ told → IfSome told (λ files. ReadsUpTo files d 1048576 bytes) → IsDescription bytes form → IsDesignText form text → Goes (Becomes v text) mid told' → Goes (FromGood Writes (gen_sources d) (gen_targets v)) told told'
-written told mid told' d v bytes text form e reads good design h = by_cases told told' reads (subst (λ (t : Option Files). Goes (Becomes v text) t told') e h)
-  where
-    by_cases : (told told' : Option Files) → IfSome told (λ files. ReadsUpTo files d 1048576 bytes) → Goes (Becomes v text) told told' → Goes (FromGood Writes (gen_sources d) (gen_targets v)) told told'
-    by_cases None None reads h = tt
-    by_cases None (Some new) reads h = absurd h
-    by_cases (Some files) None reads h = absurd h
-    by_cases (Some files) (Some new) reads h = (good_sources files d bytes form reads good, (text, (form, file_good files d bytes form reads good, design), h))
+  -- all is written
+  pub written : (told mid told' : Option Files) (d v bytes text : List ℕ) (form : Form) → mid ≡ told → IfSome told (λ files. ReadsUpTo files d 1048576 bytes) → IsDescription cards bytes form → (operation : Operation) → IsAddition cards form.width operation → IsDesignText operation form text → Goes (Becomes v text) mid told' → Goes (FromGood cards Writes (gen_sources d) (gen_targets v)) told told'
+  written told mid told' d v bytes text form e reads good operation adds design h = by_cases told told' reads (subst (λ (t : Option Files). Goes (Becomes v text) t told') e h)
+    where
+      by_cases : (told told' : Option Files) → IfSome told (λ files. ReadsUpTo files d 1048576 bytes) → Goes (Becomes v text) told told' → Goes (FromGood cards Writes (gen_sources d) (gen_targets v)) told told'
+      by_cases None None reads h = tt
+      by_cases None (Some new) reads h = absurd h
+      by_cases (Some files) None reads h = absurd h
+      by_cases (Some files) (Some new) reads h = (good_sources files d bytes form reads good, (text, (form, file_good files d bytes form reads good, operation, adds, design), h))

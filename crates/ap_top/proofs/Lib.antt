@@ -7,6 +7,8 @@ pub mod Matching
 pub mod Ranges
 pub mod Stopping
 pub mod TwoStage
-pub mod Adder
+pub mod FormUnit
 pub mod Behaviour
 pub mod Sure
+pub mod Additions
+pub mod TestValues

@@ -1,26 +1,28 @@
 use Rattle.std.proofs.Common.{ℕ, List, [], ◌∷◌, Some, ⊎_elim, arith}
+use Rattle.ap_bits.specs.declared.card.Card.{Card}
 use Rattle.ap_desk.specs.Files.{Files}
 use Rattle.ap_desk.specs.Causes.{Rose}
 use Rattle.ap_top.specs.declared.command.Command.{Command}
 use Rattle.ap_top.specs.declared.command.Command.TheVariants.{Gen}
 use Rattle.ap_top.specs.Inputs.{Source, AreGood, LacksOne, FailsOn, HasGoodInputs, HasFailed, inputs_of, with_text}
 
--- inputs that are all there and without fault don't lack one
-none_lacks : (files : Files) (before : List (List ℕ)) (sources : List Source) → AreGood files before sources → LacksOne files before sources → ⊥
-none_lacks files before [] good lacks = lacks
-none_lacks files before (source ∷ sources) good lacks =
-    ⊎_elim (λ none. let there = good.0.there in cc) (λ later. none_lacks files (with_text files before source) sources good.1 later.1) lacks
+module _ (cards : List Card) where
+  -- inputs that are all there and without fault don't lack one
+  none_lacks : (files : Files) (before : List (List ℕ)) (sources : List Source) → AreGood cards files before sources → LacksOne cards files before sources → ⊥
+  none_lacks files before [] good lacks = lacks
+  none_lacks files before (source ∷ sources) good lacks =
+      ⊎_elim (λ none. let there = good.0.there in cc) (λ later. none_lacks files (with_text files before source) sources good.1 later.1) lacks
 
--- a count that is 0 for ever doesn't rise
-stays_zero : Rose 0 0 → ⊥
-stays_zero rose = absurd (omega arith)
+  -- a count that is 0 for ever doesn't rise
+  stays_zero : Rose 0 0 → ⊥
+  stays_zero rose = absurd (omega arith)
 
-fails_not : (files : Files) (sources : List Source) (absent absent' : ℕ) → AreGood files [] sources → FailsOn sources (Some files) 0 0 absent absent' → ⊥
-fails_not files sources absent absent' good failed = ⊎_elim stays_zero (λ h. none_lacks files [] sources good h.1) failed
+  fails_not : (files : Files) (sources : List Source) (absent absent' : ℕ) → AreGood cards files [] sources → FailsOn cards sources (Some files) 0 0 absent absent' → ⊥
+  fails_not files sources absent absent' good failed = ⊎_elim stays_zero (λ h. none_lacks files [] sources good h.1) failed
 
--- on a desk without faults, a command with good inputs doesn't fail
-pub never_fails : (words : List (List ℕ)) (files : Files) (absent absent' : ℕ) → HasGoodInputs words files → HasFailed words (Some files) 0 0 absent absent' → ⊥
-never_fails words files absent absent' good failed = ⊎_elim stays_zero (λ h. same_command good.0 h.0 good.2 h.2) failed
-  where
-    same_command : (command other : Command) → AreGood files [] (inputs_of command words) → FailsOn (inputs_of other words) (Some files) 0 0 absent absent' → ⊥
-    same_command Gen Gen good failed = fails_not files (inputs_of Gen words) absent absent' good failed
+  -- on a desk without faults, a command with good inputs doesn't fail
+  pub never_fails : (words : List (List ℕ)) (files : Files) (absent absent' : ℕ) → HasGoodInputs cards words files → HasFailed cards words (Some files) 0 0 absent absent' → ⊥
+  never_fails words files absent absent' good failed = ⊎_elim stays_zero (λ h. same_command good.0 h.0 good.2 h.2) failed
+    where
+      same_command : (command other : Command) → AreGood cards files [] (inputs_of command words) → FailsOn cards (inputs_of other words) (Some files) 0 0 absent absent' → ⊥
+      same_command Gen Gen good failed = fails_not files (inputs_of Gen words) absent absent' good failed

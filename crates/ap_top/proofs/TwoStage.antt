@@ -1,17 +1,18 @@
-use Rattle.std.proofs.Common.{◌≡◌, ◌≢◌, ℕ, zero, suc, ◌<◌, ◌^◌, List, [], ◌∷◌, ◌++◌, Bool, true, false, Option, Some, None, refl, ap, subst, ◌∙◌, arith, lit<}
+use Rattle.std.proofs.Common.{◌≡◌, ◌≢◌, ℕ, zero, suc, ◌<◌, ◌^◌, List, [], ◌∷◌, ◌++◌, map, Bool, true, false, Option, Some, None, refl, ap, subst, ◌∙◌, arith, lit<}
 use Rattle.std.specs.List.{AllByRecursion as Each}
 use Rattle.std.specs.Prelude.{slice_index, slice_get, ◌==◌, if◌then◌else◌, bit_and, codes, IsTrue}
 use Rattle.std.proofs.lemmas.Nat.{pow_pos}
+use Rattle.std.proofs.lemmas.Bool.Decides.{Decides-eqb}
 use Rattle.ap_net.specs.declared.net.Role.TheVariants as role
 use Rattle.ap_net.specs.declared.net.ModuleNet.{ModuleNet}
 use Rattle.ap_net.specs.declared.net.Next.{Next}
 use Rattle.ap_net.specs.Wiring.{IsSource, reset_of, Ranked, Unclocked, IsDriven}
-use Rattle.ap_net.specs.Modules.{ModuleText}
 use Rattle.ap_net.specs.Names.{numbered}
 use Rattle.ap_net.specs.Draft.{Draft, AreDriven, RegistersBelow, CanFresh}
 use Rattle.ap_net.proofs.Laws.{IsNotNumbered-other, is_other_letter}
 use Rattle.ap_net.specs.Runs.{bit}
 use Rattle.ap_top.specs.declared.form.Form.{Form}
+use Rattle.ap_top.specs.Additions.{Operation}
 use Rattle.ap_top.specs.Machine.{State, fire, written, sum_of}
 use Rattle.ap_top.specs.Processor.{HoldsFlight}
 use Rattle.ap_top.specs.Base.{base, base_nets, base_assigns, Nets, IsShown, four_nexts}
@@ -64,8 +65,8 @@ four_clocked form nets (suc (suc (suc zero))) lt none = none.1.1.1.0 refl
 four_clocked form nets (suc (suc (suc (suc n)))) lt none = absurd (omega arith)
 
 -- every net of the processor has its driver
-pub clocked-IsDriven : (form : Form) (adder : ModuleText) (d : Draft) (nets : Nets) → IsShown form adder d nets → IsDriven d.nets d.assigns (four_nexts form nets) d.instances
-clocked-IsDriven form adder d nets s = record {
+pub clocked-IsDriven : (form : Form) (number select : ℕ) (d : Draft) (nets : Nets) → IsShown form number select d nets → IsDriven d.nets d.assigns (four_nexts form nets) d.instances
+clocked-IsDriven form number select d nets s = record {
   driven = s.closes.driven (base_driven form);
   clocked = λ n net at is none. four_clocked form nets n (s.closes.registers 4 (base_registers form) n net at is) none;
 }
@@ -77,49 +78,60 @@ base_rank n = slice_index (0 ∷ 0 ∷ 0 ∷ 0 ∷ 1 ∷ 2 ∷ 0 ∷ 1 ∷ 1 ∷
 pub base_ranked : (form : Form) → Ranked base_rank (base_assigns form)
 base_ranked form = ((lit< tt, tt), (tt, (tt, tt)))
 
--- what the outside and the registers give, by a net's number in the draft
-abbrev pub given : List ℕ → Bool → List ℕ → ℕ → ℕ → ℕ
-given code wait r n address = slice_index (slice_index r 0 ∷ slice_index r 1 ∷ slice_index r 2 ∷ slice_index r 3 ∷ 0 ∷ slice_index code address ∷ bit wait ∷ []) n
+-- what a source is given: the fetched word, whether the outside waits, or what the register holds
+abbrev pub given : ℕ → ℕ → ℕ → ℕ → (ℕ → ℕ) → ℕ → ℕ
+given idata word mwait wait registers n = if n == idata then word else if n == mwait then wait else registers n
+
+other_than : (a b : ℕ) → (a == b) ≡ false → a ≢ b
+other_than a b differs e = let yes : (a == b) ≡ true = (Decides-eqb a b).1 e in cc
+
+-- what holds of the three holds of what is given
+pub given_by : (P : ℕ → Type 0) (idata word mwait wait : ℕ) (registers : ℕ → ℕ) (n : ℕ) → (n ≡ idata → P word) → (n ≢ idata → n ≡ mwait → P wait) → (n ≢ idata → n ≢ mwait → P (registers n))
+    → P (given idata word mwait wait registers n)
+given_by P idata word mwait wait registers n first second third = go (n == idata) (n == mwait) refl refl
+  where
+    go : (a b : Bool) → (n == idata) ≡ a → (n == mwait) ≡ b → P (if a then word else if b then wait else registers n)
+    go true b e f = first ((Decides-eqb n idata).0 e)
+    go false true e f = second (other_than n idata e) ((Decides-eqb n mwait).0 f)
+    go false false e f = third (other_than n idata e) (other_than n mwait f)
+
+pub given_idata : (idata word mwait wait : ℕ) (registers : ℕ → ℕ) → given idata word mwait wait registers idata ≡ word
+given_idata idata word mwait wait registers = given_by (λ x. x ≡ word) idata word mwait wait registers idata (λ e. refl) (λ other e. absurd (other refl)) (λ other e. absurd (other refl))
+
+pub given_mwait : (idata word mwait wait : ℕ) (registers : ℕ → ℕ) → mwait ≢ idata → given idata word mwait wait registers mwait ≡ wait
+given_mwait idata word mwait wait registers apart = given_by (λ x. x ≡ wait) idata word mwait wait registers mwait (λ e. absurd (apart e)) (λ other e. refl) (λ other another. absurd (another refl))
+
+pub given_other : (idata word mwait wait : ℕ) (registers : ℕ → ℕ) (n : ℕ) → n ≢ idata → n ≢ mwait → given idata word mwait wait registers n ≡ registers n
+given_other idata word mwait wait registers n one two = given_by (λ x. x ≡ registers n) idata word mwait wait registers n (λ e. absurd (one e)) (λ other e. absurd (two e)) (λ other another. refl)
 
 -- only the fetched word looks at the address
-pub given_looks : (code : List ℕ) (wait : Bool) (r : List ℕ) (n a b : ℕ) → (n ≡ 5 → a ≡ b) → given code wait r n a ≡ given code wait r n b
-given_looks code wait r zero a b e = refl
-given_looks code wait r (suc zero) a b e = refl
-given_looks code wait r (suc (suc zero)) a b e = refl
-given_looks code wait r (suc (suc (suc zero))) a b e = refl
-given_looks code wait r (suc (suc (suc (suc zero)))) a b e = refl
-given_looks code wait r (suc (suc (suc (suc (suc zero))))) a b e = ap (slice_index code) (e refl)
-given_looks code wait r (suc (suc (suc (suc (suc (suc zero)))))) a b e = refl
-given_looks code wait r (suc (suc (suc (suc (suc (suc (suc n))))))) a b e = refl
+pub given_looks : (idata a b mwait wait : ℕ) (registers : ℕ → ℕ) (n : ℕ) → (n ≡ idata → a ≡ b) → given idata a mwait wait registers n ≡ given idata b mwait wait registers n
+given_looks idata a b mwait wait registers n same_word = go (n == idata) refl
+  where
+    go : (c : Bool) → (n == idata) ≡ c → (if c then a else if n == mwait then wait else registers n) ≡ (if c then b else if n == mwait then wait else registers n)
+    go true e = same_word ((Decides-eqb n idata).0 e)
+    go false e = refl
 
--- four registers whose numbers fit
-pub record FourFit (form : Form) (r : List ℕ) : Type 0 where
-  pub four : r ≡ slice_index r 0 ∷ slice_index r 1 ∷ slice_index r 2 ∷ slice_index r 3 ∷ []
-  pub pc : slice_index r 0 < 2 ^ form.address
-  pub register : slice_index r 1 < 2 ^ form.width
-  pub valid : slice_index r 2 < 2 ^ 1
-  pub word : slice_index r 3 < 2 ^ form.word
+-- two functions that agree on a list's elements give the same list
+pub map_both : {X Y : Type 0} (P Q : X → Type 0) (f g : X → Y) (xs : List X) → Each P xs → Each Q xs → ((x : X) → P x → Q x → f x ≡ g x) → map f xs ≡ map g xs
+map_both P Q f g [] p q e = refl
+map_both P Q f g (x ∷ xs) p q e = λ j. e x p.0 q.0 j ∷ map_both P Q f g xs p.1 q.1 e j
 
-bit_fits : (b : Bool) → bit b < 2 ^ 1
+-- what stands in the front of a list
+pub get_front : {X : Type 0} (xs ys : List X) (i : ℕ) (x : X) → slice_get xs i ≡ Some x → slice_get (xs ++ ys) i ≡ Some x
+get_front [] ys i x h = cc
+get_front (y ∷ xs) ys zero x h = h
+get_front (y ∷ xs) ys (suc i) x h = get_front xs ys i x h
+
+pub bit_fits : (b : Bool) → bit b < 2 ^ 1
 bit_fits true = lit< tt
 bit_fits false = lit< tt
 
 -- words that fit, and 0 beyond them
-word_fits : (words : List ℕ) (width n : ℕ) → Each (λ word. word < 2 ^ width) words → slice_index words n < 2 ^ width
+pub word_fits : (words : List ℕ) (width n : ℕ) → Each (λ word. word < 2 ^ width) words → slice_index words n < 2 ^ width
 word_fits [] width n h = pow_pos width
 word_fits (word ∷ words) width zero h = h.0
 word_fits (word ∷ words) width (suc n) h = word_fits words width n h.1
-
-pub given_fits : (form : Form) (code : List ℕ) (wait : Bool) (r : List ℕ) → Each (λ word. word < 2 ^ form.word) code → FourFit form r
-    → (n address : ℕ) (net : ModuleNet) → ((x : ModuleNet) → slice_get (base_nets form) n ≡ Some x → x ≡ net) → given code wait r n address < 2 ^ net.width
-given_fits form code wait r h f zero address net is = subst (λ (x : ModuleNet). slice_index r 0 < 2 ^ x.width) (is _ refl) f.pc
-given_fits form code wait r h f (suc zero) address net is = subst (λ (x : ModuleNet). slice_index r 1 < 2 ^ x.width) (is _ refl) f.register
-given_fits form code wait r h f (suc (suc zero)) address net is = subst (λ (x : ModuleNet). slice_index r 2 < 2 ^ x.width) (is _ refl) f.valid
-given_fits form code wait r h f (suc (suc (suc zero))) address net is = subst (λ (x : ModuleNet). slice_index r 3 < 2 ^ x.width) (is _ refl) f.word
-given_fits form code wait r h f (suc (suc (suc (suc zero)))) address net is = pow_pos net.width
-given_fits form code wait r h f (suc (suc (suc (suc (suc zero))))) address net is = subst (λ (x : ModuleNet). slice_index code address < 2 ^ x.width) (is _ refl) (word_fits code form.word address h)
-given_fits form code wait r h f (suc (suc (suc (suc (suc (suc zero)))))) address net is = subst (λ (x : ModuleNet). bit wait < 2 ^ x.width) (is _ refl) (bit_fits wait)
-given_fits form code wait r h f (suc (suc (suc (suc (suc (suc (suc n))))))) address net is = pow_pos net.width
 
 -- the valid bit and the word by their places
 abbrev pub HoldsState : List ℕ → State → Type 0
@@ -130,14 +142,14 @@ zero_and true = refl
 zero_and false = refl
 
 -- the enable is 1 exactly where the flight fires a write, and the value is what it writes
-pub fires : (form : Form) (valid word register enable sum : ℕ) (stage : Option ℕ) → HoldsFlight valid word stage → enable ≡ bit_and valid (if word == form.code then 1 else 0)
-    → sum ≡ sum_of form register → (if enable == 1 then Some sum else None) ≡ fire form register stage
-fires form valid word register enable sum None h e f =
+pub fires : (operation : Operation) (form : Form) (valid word register enable sum : ℕ) (stage : Option ℕ) → HoldsFlight valid word stage → enable ≡ bit_and valid (if word == form.code then 1 else 0)
+    → sum ≡ sum_of operation form register → (if enable == 1 then Some sum else None) ≡ fire operation form register stage
+fires operation form valid word register enable sum None h e f =
     let off : enable ≡ 0 = e ∙ ap (λ n. bit_and n (if word == form.code then 1 else 0)) h ∙ zero_and (word == form.code) in
     rw off refl
-fires form valid word register enable sum (Some w) h e f =
+fires operation form valid word register enable sum (Some w) h e f =
     let on : enable ≡ bit_and 1 (if w == form.code then 1 else 0) = e ∙ rw (h.0, h.1) refl in
-    rw (on, f) (go (w == form.code) (sum_of form register))
+    rw (on, f) (go (w == form.code) (sum_of operation form register))
   where
     go : (b : Bool) (n : ℕ) → (if bit_and 1 (if b then 1 else 0) == 1 then Some n else None) ≡ (if b then Some n else None)
     go true n = refl

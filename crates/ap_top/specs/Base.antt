@@ -1,6 +1,6 @@
 -- How the first form's processor is built: the nets that are declared before any circuit, under their numbers, and the
 -- equations of the circuit over them.
-use Rattle.std.specs.Prelude.{◌≡◌, ℕ, ◌+◌, ◌%◌, ◌^◌, ◌==◌, if◌then◌else◌, List, [], ◌∷◌, codes, slice_get, Some, bit_and}
+use Rattle.std.specs.Prelude.{◌≡◌, ℕ, ◌+◌, ◌%◌, ◌^◌, ◌==◌, if◌then◌else◌, List, [], ◌∷◌, map, codes, slice_get, Some, bit_and}
 use Rattle.ap_net.specs.declared.cell.Wire.{Wire}
 use Rattle.ap_net.specs.declared.cell.Cell.TheVariants as cell
 use Rattle.ap_net.specs.declared.net.Role.TheVariants.{Input, Output, Register}
@@ -10,9 +10,15 @@ use Rattle.ap_net.specs.Cells.{IsNet}
 use Rattle.ap_net.specs.declared.net.Instance.{Instance}
 use Rattle.ap_net.specs.Draft.{Draft, Adds, Closes, SettlesOpen}
 use Rattle.ap_net.specs.Placing.{Places}
-use Rattle.ap_net.specs.Modules.{ModuleText, IsNetlist, Connects, module_named, ports_among}
+use Rattle.ap_net.specs.Modules.{ModuleText, IsNetlist, module_named, ports_among}
 use Rattle.ap_net.specs.Outside.{ports_of}
 use Rattle.ap_net.specs.declared.net.Next.{Next}
+use Rattle.ap_net.specs.declared.net.Port.{Port}
+use Rattle.ap_bits.specs.declared.card.Latency.TheVariants.{One}
+use Rattle.ap_bits.specs.Cards.{select_width}
+use Rattle.ap_unit.specs.Units.{ports_by}
+use Rattle.ap_top.specs.Additions.{Operation, result_of}
+use Rattle.ap_top.specs.FormUnit.{IsFormUnit, unit_name}
 use Rattle.ap_top.specs.Processor.{outside_of, IsDesign}
 use Rattle.ap_top.specs.declared.form.Form.{Form}
 
@@ -51,37 +57,46 @@ pub record Nets : Type 0 where
   pub one : Wire
 
 -- what every solution gives them
-pub record Equations (form : Form) (nets : Nets) (read : ℕ → ℕ) : Type 0 where
+pub record Equations (operation : Operation) (form : Form) (nets : Nets) (read : ℕ → ℕ) : Type 0 where
   pub iaddr : read 4 ≡ read 0
   pub stall : read 7 ≡ 0
   pub kill : read 8 ≡ 0
   pub next_address : read nets.next_address.number ≡ (read 0 + 1) % 2 ^ form.address
   pub enable : read nets.enable.number ≡ bit_and (read 2) (if read 3 == form.code then 1 else 0)
-  pub sum : read nets.sum.number ≡ (read 1 + form.constant) % 2 ^ form.width
+  pub sum : read nets.sum.number ≡ result_of operation form.width (read 1) form.constant
   pub written : read nets.written.number ≡ (if read nets.enable.number == 1 then read nets.sum.number else read 1)
   pub one : read nets.one.number ≡ 1
 
--- the instance of the adder over these nets of the circuit
-abbrev pub IsUnit : ModuleText → Instance → Type 0
-IsUnit adder i = (i.name ≡ codes "u_U") × Connects adder i
+-- The instance of the unit over nets of the circuit: it depends on the unit's name and ports alone, so it is an instance of
+-- every unit of w bits whose sel has so many bits.
+pub record IsPlaced (w select : ℕ) (i : Instance) : Type 0 where
+  pub name : i.name ≡ codes "u_U"
+  pub named : i.module ≡ unit_name w
+  pub widths : map (λ (x : Wire). x.width) i.nets ≡ map (λ (p : Port). p.width) (ports_by One select w)
+  pub drives : i.drives ≡ map (λ (p : Port). p.output) (ports_by One select w)
 
--- The circuit stands in the draft, over the base, with one instance of the adder. Its equations hold in every solution in which
--- the instance's part solves the adder.
-pub record IsCircuit (form : Form) (adder : ModuleText) (d : Draft) (nets : Nets) : Type 0 where
+-- In every solution in which the instance's part solves a unit, the nets have these values. Any unit may stand there, with
+-- whatever card, as long as the operation has the number that the circuit gives and the ports are the same.
+abbrev pub GiveEquations : Form → ℕ → ℕ → Draft → Nets → Type 0
+GiveEquations form number select d nets = (operation : Operation) → operation.number ≡ number → (unit : ModuleText) → IsFormUnit operation form.width select unit
+    → (modules : List ModuleText) → module_named modules unit.name ≡ Some unit → (read : ℕ → ℕ) (parts : ℕ → ℕ → ℕ) → SettlesOpen modules d read parts → Equations operation form nets read
+
+-- the circuit stands in the draft, over the base, with one instance of the unit, which it gives the operation's number
+pub record IsCircuit (form : Form) (number select : ℕ) (d : Draft) (nets : Nets) : Type 0 where
   pub unit : Instance
-  pub is_unit : IsUnit adder unit
+  pub is_placed : IsPlaced form.width select unit
   pub places : Places (unit ∷ []) (base form) d
   pub next_address : IsNet d.nets nets.next_address × (nets.next_address.width ≡ form.address)
   pub enable : IsNet d.nets nets.enable × (nets.enable.width ≡ 1)
   pub sum : IsNet d.nets nets.sum × (nets.sum.width ≡ form.width)
   pub written : IsNet d.nets nets.written × (nets.written.width ≡ form.width)
   pub one : IsNet d.nets nets.one × (nets.one.width ≡ 1)
-  pub equations : (modules : List ModuleText) → module_named modules adder.name ≡ Some adder → (read : ℕ → ℕ) (parts : ℕ → ℕ → ℕ) → SettlesOpen modules d read parts → Equations form nets read
+  pub equations : GiveEquations form number select d nets
 
 -- the write group is shown besides: its two ports stand at these numbers
-pub record IsShown (form : Form) (adder : ModuleText) (d : Draft) (nets : Nets) : Type 0 where
+pub record IsShown (form : Form) (number select : ℕ) (d : Draft) (nets : Nets) : Type 0 where
   pub unit : Instance
-  pub is_unit : IsUnit adder unit
+  pub is_placed : IsPlaced form.width select unit
   pub instances : d.instances ≡ unit ∷ []
   pub adds : Adds (base form) d
   pub closes : Closes (base form) d
@@ -93,15 +108,24 @@ pub record IsShown (form : Form) (adder : ModuleText) (d : Draft) (nets : Nets) 
   pub write_value : ℕ
   pub enable_there : slice_get d.nets write_enable ≡ Some (record { name = codes "w_R_e"; width = 1; role = Output })
   pub value_there : slice_get d.nets write_value ≡ Some (record { name = codes "w_R_v"; width = form.width; role = Output })
-  pub equations : (modules : List ModuleText) → module_named modules adder.name ≡ Some adder → (read : ℕ → ℕ) (parts : ℕ → ℕ → ℕ) → SettlesOpen modules d read parts
-      → Equations form nets read × (read write_enable ≡ read nets.enable.number) × (read write_value ≡ read nets.sum.number)
+  pub equations : GiveEquations form number select d nets
+  pub shows : (modules : List ModuleText) (read : ℕ → ℕ) (parts : ℕ → ℕ → ℕ) → SettlesOpen modules d read parts → (read write_enable ≡ read nets.enable.number) × (read write_value ≡ read nets.sum.number)
 
 -- what the four registers take
 abbrev pub four_nexts : Form → Nets → List Next
 four_nexts form nets = record { register = wire 0 form.address; from = nets.next_address } ∷ record { register = wire 1 form.width; from = nets.written }
     ∷ record { register = wire 2 1; from = nets.one } ∷ record { register = wire 3 form.word; from = wire 5 form.word } ∷ []
 
--- the finished module top, beside the adder: they are a netlist, and do what the machine does
-pub record IsTop (form : Form) (adder m : ModuleText) : Type 0 where
-  pub netlist : IsNetlist (adder ∷ m ∷ [])
-  pub design : IsDesign form (adder ∷ m ∷ [])
+-- The finished module top: beside every unit of the form's width to whose sel the number fits, they are a netlist, and do what
+-- the machine does with that unit's operation.
+abbrev pub IsTop : Form → ℕ → ℕ → ModuleText → Type 0
+IsTop form number select m = (operation : Operation) → operation.number ≡ number → (unit : ModuleText) → IsFormUnit operation form.width select unit
+    → IsNetlist (unit ∷ m ∷ []) × IsDesign operation form (unit ∷ m ∷ [])
+
+-- the modules are a unit that can do the operation, and a module top that fits each such unit
+pub record IsTwoStage (operation : Operation) (form : Form) (modules : List ModuleText) : Type 0 where
+  pub unit : ModuleText
+  pub top : ModuleText
+  pub both : modules ≡ unit ∷ top ∷ []
+  pub is_unit : IsFormUnit operation form.width (select_width operation.card) unit
+  pub is_top : IsTop form operation.number (select_width operation.card) top

@@ -57,4 +57,4 @@ writing value = record { stall = false; kill = false; writes = record { group = 
 
 -- cycle 0 fetches the first word; cycles 1 and 2 add modulo 256: 3 + 250 is 253, and 253 + 250 is 247; then nothing is written
 abbrev pub ExampleRows : Type 0
-ExampleRows = map (row example_form example_image (record { lines = [] })) (0 ∷ 1 ∷ 2 ∷ 3 ∷ []) ≡ quiet ∷ writing 253 ∷ writing 247 ∷ quiet ∷ []
+ExampleRows = map (row example_operation example_form example_image (record { lines = [] })) (0 ∷ 1 ∷ 2 ∷ 3 ∷ []) ≡ quiet ∷ writing 253 ∷ writing 247 ∷ quiet ∷ []

@@ -1,5 +1,7 @@
--- The one form of description that is built today: fifteen lines in which six letters stand for numbers.
+-- The one form of description that is built today: fifteen lines in which six letters stand for numbers, over a shelf whose kind
+-- `alu` has the operation `add`.
 use Rattle.std.specs.Prelude.{◌≡◌, ◌⊎◌, ℕ, ◌≤◌, ◌<◌, ◌^◌, List, [], ◌∷◌, ◌++◌, length, take, codes, IsTrue, Some}
+use Rattle.ap_bits.specs.declared.card.Card.{Card}
 use Rattle.ap_text.specs.Lines.{TextLine, lines_of}
 use Rattle.ap_text.specs.Numbers.{number_value}
 use Rattle.ap_desc.specs.Faults.{IsFaultless, IsLeastFault, StandsAt}
@@ -12,6 +14,7 @@ use Rattle.ap_top.specs.declared.form.ReadFault.{ReadFault}
 use Rattle.ap_top.specs.declared.form.ReadFault.TheVariants.{Refused, NoMemory}
 use Rattle.ap_top.specs.declared.form.Judged.{Judged}
 use Rattle.ap_top.specs.declared.form.Judged.TheVariants as judged
+use Rattle.ap_top.specs.Additions.{Operation, IsAddition}
 
 -- the number that a letter stands for
 abbrev pub value_of : Form → Letter → ℕ
@@ -100,51 +103,64 @@ pub record IsForm (form : Form) : Type 0 where
 abbrev pub AreFirstLines : Form → List TextLine → Type 0
 AreFirstLines form lines = AreLines form (take (length lines) first_form) lines
 
--- the lines are the first ones of the form, with numbers within their ranges
-abbrev pub BeginForm : List TextLine → Type 0
-BeginForm lines = (form : Form) × AreFirstLines form lines × IsForm form
+-- a unit of w bits of the shelf can add in one cycle
+abbrev pub HasAddition : List Card → ℕ → Type 0
+HasAddition cards w = (operation : Operation) × IsAddition cards w operation
 
--- the line of this number is the first whose tokens aren't those due: the lines before it begin the form, and with it they don't
-pub record IsFirstWrong (lines : List TextLine) (number : ℕ) : Type 0 where
+-- the place of the line `unit` among the form's lines, counted from 0
+abbrev pub unit_line : ℕ
+unit_line = 5
+
+-- where the line `unit` is among the first lines, the shelf has its unit
+abbrev pub HasUnit : List Card → Form → List TextLine → Type 0
+HasUnit cards form lines = unit_line < length lines → HasAddition cards form.width
+
+-- the lines are the first ones of the form, with numbers within their ranges and a unit that the shelf has
+abbrev pub BeginForm : List Card → List TextLine → Type 0
+BeginForm cards lines = (form : Form) × AreFirstLines form lines × IsForm form × HasUnit cards form lines
+
+-- the line of this number is the first that isn't due: the lines before it begin the form, and with it they don't
+pub record IsFirstWrong (cards : List Card) (lines : List TextLine) (number : ℕ) : Type 0 where
   pub before : List TextLine
   pub line : TextLine
   pub place : StandsAt lines number before line
-  pub begun : BeginForm before
-  pub ends : BeginForm (before ++ line ∷ []) → ⊥
+  pub begun : BeginForm cards before
+  pub ends : BeginForm cards (before ++ line ∷ []) → ⊥
 
 -- all lines begin the form, and there are too few of them
-pub record AreTooFew (lines : List TextLine) : Type 0 where
+pub record AreTooFew (cards : List Card) (lines : List TextLine) : Type 0 where
   pub few : length lines < length first_form
-  pub begun : BeginForm lines
+  pub begun : BeginForm cards lines
 
 -- where the lines aren't those of the form: at the first that isn't due, or, where there are too few, at line 0
-abbrev pub IsNotBuiltAt : List TextLine → ℕ → Type 0
-IsNotBuiltAt lines number = IsFirstWrong lines number ⊎ ((number ≡ 0) × AreTooFew lines)
+abbrev pub IsNotBuiltAt : List Card → List TextLine → ℕ → Type 0
+IsNotBuiltAt cards lines number = IsFirstWrong cards lines number ⊎ ((number ≡ 0) × AreTooFew cards lines)
 
 -- the text has the form's lines, with these numbers
 pub record IsFirstForm (text : List ℕ) (form : Form) : Type 0 where
   pub lines : AreLines form first_form (lines_of text)
   pub ranges : IsForm form
 
--- the text is a description without fault, of the form with these numbers
-pub record IsDescription (text : List ℕ) (form : Form) : Type 0 where
+-- the text is a description without fault, of the form with these numbers, whose unit the shelf has
+pub record IsDescription (cards : List Card) (text : List ℕ) (form : Form) : Type 0 where
   pub faultless : IsFaultless text
   pub first : IsFirstForm text form
+  pub unit : HasAddition cards form.width
 
 -- the fault is the text's: its least fault of form; or it has none, and isn't of the form from this line on
-abbrev pub HasFault : List ℕ → Judged → Type 0
-HasFault text (judged.Refused refusal) = IsLeastFault text refusal
-HasFault text (judged.NotBuilt line) = IsFaultless text × IsNotBuiltAt (lines_of text) line
+abbrev pub HasFault : List Card → List ℕ → Judged → Type 0
+HasFault cards text (judged.Refused refusal) = IsLeastFault text refusal
+HasFault cards text (judged.NotBuilt line) = IsFaultless text × IsNotBuiltAt cards (lines_of text) line
 
 -- why reading a text gave no form
-abbrev pub IsReadFault : List ℕ → ReadFault → Type 0
-IsReadFault text (Refused judged) = HasFault text judged
-IsReadFault text NoMemory = Unit {0}
+abbrev pub IsReadFault : List Card → List ℕ → ReadFault → Type 0
+IsReadFault cards text (Refused judged) = HasFault cards text judged
+IsReadFault cards text NoMemory = Unit {0}
 
 -- why lines gave no form: they aren't its lines from this one on
-abbrev pub IsNotBuilt : List TextLine → Judged → Type 0
-IsNotBuilt lines (judged.Refused refusal) = ⊥
-IsNotBuilt lines (judged.NotBuilt line) = IsNotBuiltAt lines line
+abbrev pub IsNotBuilt : List Card → List TextLine → Judged → Type 0
+IsNotBuilt cards lines (judged.Refused refusal) = ⊥
+IsNotBuilt cards lines (judged.NotBuilt line) = IsNotBuiltAt cards lines line
 
 -- how a fault of reading a description is one of reading a form
 abbrev pub reading_of : DescFault → ReadFault

@@ -1,6 +1,8 @@
 -- The inputs of a command: which are there, which have a fault, and which of them is reached. They are taken in the command's order.
+-- Whether a description has a fault depends on the cards of the shelf.
 use Rattle.std.specs.Prelude.{◌≡◌, ◌⊎◌, ℕ, List, [], ◌∷◌, ◌++◌, drop, Option, None, Some, IfSome}
 use Rattle.std.specs.FinMap.{get}
+use Rattle.ap_bits.specs.declared.card.Card.{Card}
 use Rattle.ap_desk.specs.Files.{Files, content}
 use Rattle.ap_desk.specs.Causes.{Rose}
 use Rattle.ap_top.specs.declared.command.Input.{Input}
@@ -27,60 +29,60 @@ abbrev pub inputs_of : Command → List (List ℕ) → List Source
 inputs_of command words = inputs_in (operands_of command (drop 1 words))
 
 -- the text of an input has no fault; the texts of the inputs before it are given
-abbrev pub IsFaultless : List (List ℕ) → Input → List ℕ → Type 0
-IsFaultless before input.Description text = (form : Form) × IsDescription text form
+abbrev pub IsFaultless : List Card → List (List ℕ) → Input → List ℕ → Type 0
+IsFaultless cards before input.Description text = (form : Form) × IsDescription cards text form
 
 -- the text of an input is refused so
-abbrev pub IsRefused : List (List ℕ) → Input → List ℕ → Refusal → Type 0
-IsRefused before input.Description text refusal.Usage = ⊥
-IsRefused before input.Description text (refusal.Description judged) = HasFault text judged
+abbrev pub IsRefused : List Card → List (List ℕ) → Input → List ℕ → Refusal → Type 0
+IsRefused cards before input.Description text refusal.Usage = ⊥
+IsRefused cards before input.Description text (refusal.Description judged) = HasFault cards text judged
 
 -- the file is there
 abbrev pub IsThere : Files → List ℕ → Type 0
 IsThere files name = get files name ≡ Some (content files name)
 
 -- the input is there, and its text has no fault
-pub record IsGood (files : Files) (before : List (List ℕ)) (source : Source) : Type 0 where
+pub record IsGood (cards : List Card) (files : Files) (before : List (List ℕ)) (source : Source) : Type 0 where
   pub there : IsThere files source.1
-  pub faultless : IsFaultless before source.0 (content files source.1)
+  pub faultless : IsFaultless cards before source.0 (content files source.1)
 
 -- the texts before the next input
 abbrev pub with_text : Files → List (List ℕ) → Source → List (List ℕ)
 with_text files before source = before ++ content files source.1 ∷ []
 
 -- every input is there, and none has a fault
-abbrev pub AreGood : Files → List (List ℕ) → List Source → Type 0
-AreGood files before [] = Unit {0}
-AreGood files before (source ∷ sources) = IsGood files before source × AreGood files (with_text files before source) sources
+abbrev pub AreGood : List Card → Files → List (List ℕ) → List Source → Type 0
+AreGood cards files before [] = Unit {0}
+AreGood cards files before (source ∷ sources) = IsGood cards files before source × AreGood cards files (with_text files before source) sources
 
 -- some input isn't there, and each before the first such one is there and has no fault
-abbrev pub LacksOne : Files → List (List ℕ) → List Source → Type 0
-LacksOne files before [] = ⊥
-LacksOne files before (source ∷ sources) = (get files source.1 ≡ None) ⊎ (IsGood files before source × LacksOne files (with_text files before source) sources)
+abbrev pub LacksOne : List Card → Files → List (List ℕ) → List Source → Type 0
+LacksOne cards files before [] = ⊥
+LacksOne cards files before (source ∷ sources) = (get files source.1 ≡ None) ⊎ (IsGood cards files before source × LacksOne cards files (with_text files before source) sources)
 
 -- some input is reached and is refused so: each before it is there and has no fault
-abbrev pub RefusesOne : Files → List (List ℕ) → List Source → Refusal → Type 0
-RefusesOne files before [] refusal = ⊥
-RefusesOne files before (source ∷ sources) refusal = (IsThere files source.1 × IsRefused before source.0 (content files source.1) refusal) ⊎ (IsGood files before source × RefusesOne files (with_text files before source) sources refusal)
+abbrev pub RefusesOne : List Card → Files → List (List ℕ) → List Source → Refusal → Type 0
+RefusesOne cards files before [] refusal = ⊥
+RefusesOne cards files before (source ∷ sources) refusal = (IsThere files source.1 × IsRefused cards before source.0 (content files source.1) refusal) ⊎ (IsGood cards files before source × RefusesOne cards files (with_text files before source) sources refusal)
 
 -- an input of these is refused so, where the desk tells; without words there is no other refusal
-abbrev pub IsDueOf : List Source → Option Files → Refusal → Type 0
-IsDueOf sources told refusal.Usage = ⊥
-IsDueOf sources told refusal = IfSome told (λ files. RefusesOne files [] sources refusal)
+abbrev pub IsDueOf : List Card → List Source → Option Files → Refusal → Type 0
+IsDueOf cards sources told refusal.Usage = ⊥
+IsDueOf cards sources told refusal = IfSome told (λ files. RefusesOne cards files [] sources refusal)
 
 -- the refusal is due: the words are no command; or they are one and, where the desk tells, a reached input is refused so
-abbrev pub IsDue : List (List ℕ) → Option Files → Refusal → Type 0
-IsDue words told refusal.Usage = IsCommand words → ⊥
-IsDue words told refusal = (command : Command) × IsCall command words × IsDueOf (inputs_of command words) told refusal
+abbrev pub IsDue : List Card → List (List ℕ) → Option Files → Refusal → Type 0
+IsDue cards words told refusal.Usage = IsCommand words → ⊥
+IsDue cards words told refusal = (command : Command) × IsCall command words × IsDueOf cards (inputs_of command words) told refusal
 
 -- the words are a command, every input of it is there, and none has a fault
-abbrev pub HasGoodInputs : List (List ℕ) → Files → Type 0
-HasGoodInputs words files = (command : Command) × IsCall command words × AreGood files [] (inputs_of command words)
+abbrev pub HasGoodInputs : List Card → List (List ℕ) → Files → Type 0
+HasGoodInputs cards words files = (command : Command) × IsCall command words × AreGood cards files [] (inputs_of command words)
 
 -- a call of the desk failed; or it missed a file and, where it tells, an input isn't there and each before it is there and has no fault
-abbrev pub FailsOn : List Source → Option Files → ℕ → ℕ → ℕ → ℕ → Type 0
-FailsOn sources told faults faults' absent absent' = Rose faults faults' ⊎ (Rose absent absent' × IfSome told (λ files. LacksOne files [] sources))
+abbrev pub FailsOn : List Card → List Source → Option Files → ℕ → ℕ → ℕ → ℕ → Type 0
+FailsOn cards sources told faults faults' absent absent' = Rose faults faults' ⊎ (Rose absent absent' × IfSome told (λ files. LacksOne cards files [] sources))
 
 -- the desk failed in the call, by its counts before and after
-abbrev pub HasFailed : List (List ℕ) → Option Files → ℕ → ℕ → ℕ → ℕ → Type 0
-HasFailed words told faults faults' absent absent' = Rose faults faults' ⊎ ((command : Command) × IsCall command words × FailsOn (inputs_of command words) told faults faults' absent absent')
+abbrev pub HasFailed : List Card → List (List ℕ) → Option Files → ℕ → ℕ → ℕ → ℕ → Type 0
+HasFailed cards words told faults faults' absent absent' = Rose faults faults' ⊎ ((command : Command) × IsCall command words × FailsOn cards (inputs_of command words) told faults faults' absent absent')

@@ -4,7 +4,7 @@ pub mod Form
 pub mod Found
 pub mod Machine
 pub mod Processor
-pub mod Adder
+pub mod FormUnit
 pub mod Base
 pub mod Circuits
 pub mod DesignText
@@ -15,3 +15,4 @@ pub mod Endings
 pub mod Troubles
 pub mod Generate
 pub mod Example
+pub mod TestCards

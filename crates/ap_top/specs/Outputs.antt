@@ -1,12 +1,14 @@
--- The outputs of a command: the text that each is to hold, and what was written of them.
+-- The outputs of a command: the text that each is to hold by the cards of the shelf, and what was written of them.
 use Rattle.std.specs.Prelude.{◌≡◌, ◌⊎◌, ℕ, List, [], ◌∷◌, drop, map, take}
 use Rattle.std.specs.FinMap.{insert}
+use Rattle.ap_bits.specs.declared.card.Card.{Card}
 use Rattle.ap_desk.specs.Files.{Files, content}
 use Rattle.ap_top.specs.declared.command.Output.{Output}
 use Rattle.ap_top.specs.declared.command.Output.TheVariants.{Verilog}
 use Rattle.ap_top.specs.declared.command.Slot.TheVariants as slot
 use Rattle.ap_top.specs.declared.command.Command.{Command}
 use Rattle.ap_top.specs.declared.form.Form.{Form}
+use Rattle.ap_top.specs.Additions.{Operation, IsAddition}
 use Rattle.ap_top.specs.Commands.{Operand, operands_of}
 use Rattle.ap_top.specs.Form.{IsDescription}
 use Rattle.ap_top.specs.DesignText.{IsDesignText}
@@ -26,27 +28,28 @@ abbrev pub outputs_of : Command → List (List ℕ) → List Target
 outputs_of command words = outputs_in (operands_of command (drop 1 words))
 
 -- the text is one that the output may hold, by the texts of the inputs
-abbrev pub IsOutputText : Output → List (List ℕ) → List ℕ → Type 0
-IsOutputText Verilog [] text = ⊥
-IsOutputText Verilog (description ∷ others) text = (form : Form) × IsDescription description form × IsDesignText form text
+abbrev pub IsOutputText : List Card → Output → List (List ℕ) → List ℕ → Type 0
+IsOutputText cards Verilog [] text = ⊥
+IsOutputText cards Verilog (description ∷ others) text = (form : Form) × IsDescription cards description form
+    × (operation : Operation) × IsAddition cards form.width operation × IsDesignText operation form text
 
 abbrev pub texts_of : Files → List Source → List (List ℕ)
 texts_of files sources = map (λ (source : Source). content files source.1) sources
 
 -- each output holds its text, and no other file changed
-abbrev pub Writes : List (List ℕ) → List Target → Files → Files → Type 0
-Writes texts [] old new = new ≡ old
-Writes texts (target ∷ targets) old new = (text : List ℕ) × IsOutputText target.0 texts text × Writes texts targets (insert old target.1 text) new
+abbrev pub Writes : List Card → List (List ℕ) → List Target → Files → Files → Type 0
+Writes cards texts [] old new = new ≡ old
+Writes cards texts (target ∷ targets) old new = (text : List ℕ) × IsOutputText cards target.0 texts text × Writes cards texts targets (insert old target.1 text) new
 
 -- each output is as it was or holds a front of its text, and no other file changed
-abbrev pub WritesFronts : List (List ℕ) → List Target → Files → Files → Type 0
-WritesFronts texts [] old new = new ≡ old
-WritesFronts texts (target ∷ targets) old new = WritesFronts texts targets old new ⊎ ((text : List ℕ) × (n : ℕ) × IsOutputText target.0 texts text × WritesFronts texts targets (insert old target.1 (take n text)) new)
+abbrev pub WritesFronts : List Card → List (List ℕ) → List Target → Files → Files → Type 0
+WritesFronts cards texts [] old new = new ≡ old
+WritesFronts cards texts (target ∷ targets) old new = WritesFronts cards texts targets old new ⊎ ((text : List ℕ) × (n : ℕ) × IsOutputText cards target.0 texts text × WritesFronts cards texts targets (insert old target.1 (take n text)) new)
 
 -- this is done to the outputs by the texts of inputs that are all there and without fault
-abbrev pub FromGood : (List (List ℕ) → List Target → Files → Files → Type 0) → List Source → List Target → Files → Files → Type 0
-FromGood step sources targets old new = AreGood old [] sources × step (texts_of old sources) targets old new
+abbrev pub FromGood : List Card → (List Card → List (List ℕ) → List Target → Files → Files → Type 0) → List Source → List Target → Files → Files → Type 0
+FromGood cards step sources targets old new = AreGood cards old [] sources × step cards (texts_of old sources) targets old new
 
 -- nothing was done, or each output is as it was or holds a front of its text
-abbrev pub IsBegunOn : List Source → List Target → Files → Files → Type 0
-IsBegunOn sources targets old new = (new ≡ old) ⊎ FromGood WritesFronts sources targets old new
+abbrev pub IsBegunOn : List Card → List Source → List Target → Files → Files → Type 0
+IsBegunOn cards sources targets old new = (new ≡ old) ⊎ FromGood cards WritesFronts sources targets old new

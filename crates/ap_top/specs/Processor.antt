@@ -9,6 +9,7 @@ use Rattle.ap_net.specs.Flat.{Flat, opened, top_ports, register_named}
 use Rattle.ap_net.specs.Runs.{NetState, Runs}
 use Rattle.ap_net.specs.Rows.{shown_row}
 use Rattle.ap_top.specs.declared.form.Form.{Form}
+use Rattle.ap_top.specs.Additions.{Operation}
 use Rattle.ap_top.specs.Machine.{State, over, row}
 
 -- the outside of the form's processor: no input ports, no data memories, and the one register as its write group
@@ -27,15 +28,16 @@ pub record Keeps (f : Flat) (state : NetState) (machine : State) : Type 0 where
   pub stage : HoldsFlight (register_named f state.registers (codes "v_1")) (register_named f state.registers (codes "x_1")) machine.stage
 
 -- A run exists, and every run shows the machine's rows and keeps its states.
-pub record IsProcessor (form : Form) (f : Flat) : Type 0 where
+pub record IsProcessor (operation : Operation) (form : Form) (f : Flat) : Type 0 where
   pub exists : (image : Image) (trace : Trace) (c : ℕ) → ImageFitsShape image (shape_of (outside_of form)) → TraceFitsShape trace (shape_of (outside_of form))
       → (states : ℕ → NetState) × (valuations : ℕ → List ℕ) × Runs (outside_of form) f image trace c states valuations
   pub rows : (image : Image) (trace : Trace) (c : ℕ) (states : ℕ → NetState) (valuations : ℕ → List ℕ) → Runs (outside_of form) f image trace c states valuations
-      → (j : ℕ) → j < c → shown_row (outside_of form) f (valuations j) ≡ row form image trace j
+      → (j : ℕ) → j < c → shown_row (outside_of form) f (valuations j) ≡ row operation form image trace j
   pub keeps : (image : Image) (trace : Trace) (c : ℕ) (states : ℕ → NetState) (valuations : ℕ → List ℕ) → Runs (outside_of form) f image trace c states valuations
-      → (j : ℕ) → j ≤ c → Keeps f (states j) (over form image trace j)
+      → (j : ℕ) → j ≤ c → Keeps f (states j) (over operation form image trace j)
 
--- the modules are the form's processor: the ports of the top module are those due, and the equations do what the machine does
-pub record IsDesign (form : Form) (modules : List ModuleText) : Type 0 where
+-- the modules are the form's processor with a unit that does the operation: the ports of the top module are those due, and the
+-- equations do what the machine does
+pub record IsDesign (operation : Operation) (form : Form) (modules : List ModuleText) : Type 0 where
   pub ports : top_ports modules ≡ ports_of (outside_of form)
-  pub behaves : IsProcessor form (opened modules)
+  pub behaves : IsProcessor operation form (opened modules)

@@ -1,5 +1,6 @@
 -- Why a part of a call gave up, by the desk's counts, and what it left.
 use Rattle.std.specs.Prelude.{◌≡◌, ℕ, ◌≤◌, List, Option, Result, Err}
+use Rattle.ap_bits.specs.declared.card.Card.{Card}
 use Rattle.ap_desk.specs.Files.{Files, Goes}
 use Rattle.ap_top.specs.declared.refusal.Trouble.TheVariants.{Desk}
 use Rattle.ap_top.specs.declared.refusal.Stop.{Stop}
@@ -19,11 +20,11 @@ pub record IsCaused {T E : Type 0} (fault : E) (cause : Type 0) (faults faults' 
   pub desk : result ≡ Err fault → cause
 
 -- what the work on these inputs and outputs left when it stopped: nothing where it was refused, and otherwise a part of the outputs
-abbrev pub StopsOn : List Source → List Target → Option Files → Option Files → Stop → Type 0
-StopsOn sources targets told told' (Refused refusal) = (told' ≡ told) × IsDueOf sources told refusal
-StopsOn sources targets told told' (Broken trouble) = Goes (IsBegunOn sources targets) told told'
+abbrev pub StopsOn : List Card → List Source → List Target → Option Files → Option Files → Stop → Type 0
+StopsOn cards sources targets told told' (Refused refusal) = (told' ≡ told) × IsDueOf cards sources told refusal
+StopsOn cards sources targets told told' (Broken trouble) = Goes (IsBegunOn cards sources targets) told told'
 
 -- the same for the work that the words ask for
-abbrev pub StopsAs : List (List ℕ) → Option Files → Option Files → Stop → Type 0
-StopsAs words told told' (Refused refusal) = (told' ≡ told) × IsDue words told refusal
-StopsAs words told told' (Broken trouble) = Goes (IsBegun words) told told'
+abbrev pub StopsAs : List Card → List (List ℕ) → Option Files → Option Files → Stop → Type 0
+StopsAs cards words told told' (Refused refusal) = (told' ≡ told) × IsDue cards words told refusal
+StopsAs cards words told told' (Broken trouble) = Goes (IsBegun cards words) told told'

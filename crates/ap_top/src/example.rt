@@ -1,6 +1,7 @@
 ghost use Rattle.ap_desc.specs.Descriptions as statements;
 ghost use Rattle.ap_desc.specs.Reading.{ReadsAs};
-ghost use Rattle.ap_top.specs.Example.{ExampleRows, example_form, example_statements, example_text};
+ghost use Rattle.ap_top.specs.Additions.{IsAddition};
+ghost use Rattle.ap_top.specs.Example.{ExampleRows, example_cards, example_form, example_operation, example_statements, example_text};
 ghost use Rattle.ap_top.specs.Form.{IsDescription};
 
 use ap_read::laws::descriptions_are_faultless;
@@ -11,9 +12,11 @@ pub fn example_reading()
     ensures description { statements.IsDescription example_statements }
 {}
 
-/// The example is a description of the first form, with the numbers that are read off it.
+/// The example is a description of the first form, with the numbers that are read off it, where the shelf has a kind that
+/// adds.
 pub fn example_description()
-    ensures { IsDescription example_text example_form }
+    ensures addition { IsAddition example_cards 8 example_operation }
+    ensures description { IsDescription example_cards example_text example_form }
 {
     example_reading();
     descriptions_are_faultless();

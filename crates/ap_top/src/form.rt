@@ -1,14 +1,21 @@
 ghost use Rattle.std.specs.Prelude.{◌≡◌, IfErr, IfOk, map};
 ghost use Rattle.ap_text.specs.Spans.{AreLinesWithin, line_in};
-ghost use Rattle.ap_top.specs.Form.{AreLines, IsDescription, IsForm, IsNotBuilt, IsReadFault, first_form, reading_of};
+ghost use Rattle.ap_unit.specs.Shelves.{cards_of};
+ghost use Rattle.ap_top.specs.Form.{AreLines, HasAddition, IsDescription, IsForm, IsNotBuilt, IsReadFault, first_form, reading_of};
+ghost use Rattle.ap_top.specs.Found.{IsServed};
 ghost use Rattle.ap_top.specs.declared.form.ReadFault.TheVariants as fault;
 
+use crate::addition::find_addition;
 use crate::numbers::Numbers;
 use crate::pattern;
 use ap_desc::{DescFault, Refusal};
 use ap_read::read;
 use ap_text::{Line, lines};
+use ap_unit::{Shelf, UnitKind};
 use std::alloc::Global;
+
+/// The place of the line `unit` among the form's lines, counted from 0.
+const UNIT_LINE: usize = 5;
 
 /// A description of the first form: its six numbers.
 #[derive(Clone, Copy, Debug, PartialEq, Eq)]
@@ -79,26 +86,30 @@ impl From<Judged> for ReadFault {
 ///
 /// Where the text has a fault of form, it is `Refused` for the least one. Any other text that isn't of the first form is
 /// `NotBuilt`, at the first line whose tokens aren't those due, or at line 0 where the text ends before the fifteen lines.
-pub fn judge(alloc: Global, text: &[u8]) -> Result<Form, ReadFault>
-    ensures form { IfOk result (IsDescription text.now) }
-    ensures refused { IfErr result (IsReadFault text.now) }
+/// The line `unit` isn't due where the shelf has no operation `add` of a kind `alu` for its width.
+pub fn judge(alloc: Global, text: &[u8], shelf: &Shelf) -> Result<Form, ReadFault>
+    ensures form { IfOk result (IsDescription (cards_of (λ v x. (⟦<dyn UnitKind as UnitKind>⟧ v).card x) shelf.now) text.now) }
+    ensures refused { IfErr result (IsReadFault (cards_of (λ v x. (⟦<dyn UnitKind as UnitKind>⟧ v).card x) shelf.now) text.now) }
 {
     let _ = read(alloc, text)?;
     let list = lines(alloc, text)?;
-    let form = read_form(text, list.as_slice())?;
+    let form = read_form(text, list.as_slice(), shelf)?;
     Ok(form)
 }
 
 /// The first form with the numbers of these lines, or where they aren't its lines.
-fn read_form(text: &[u8], lines: &[Line]) -> Result<Form, Judged>
+fn read_form(text: &[u8], lines: &[Line], shelf: &Shelf) -> Result<Form, Judged>
     requires { AreLinesWithin text.now lines.now }
-    ensures form { IfOk result (λ form. AreLines form first_form (map (line_in text.now) lines.now) × IsForm form) }
-    ensures not_built { IfErr result (IsNotBuilt (map (line_in text.now) lines.now)) }
+    ensures form { IfOk result (λ form. AreLines form first_form (map (line_in text.now) lines.now) × IsForm form × HasAddition (cards_of (λ v x. (⟦<dyn UnitKind as UnitKind>⟧ v).card x) shelf.now) form.width) }
+    ensures not_built { IfErr result (IsNotBuilt (cards_of (λ v x. (⟦<dyn UnitKind as UnitKind>⟧ v).card x) shelf.now) (map (line_in text.now) lines.now)) }
 {
     let due = pattern::first_form();
     let mut numbers = Numbers::new();
     for (i, line) in lines.iter().enumerate() {
-        if i == due.len() || !numbers.fit_line(text, line, due[i]) {
+        if i == due.len()
+            || !numbers.fit_line(text, line, due[i])
+            || !is_served(shelf, &numbers, i)
+        {
             return Err(Judged::NotBuilt { line: line.number });
         }
     }
@@ -107,4 +118,17 @@ fn read_form(text: &[u8], lines: &[Line]) -> Result<Form, Judged>
     }
     let form = numbers.form().unwrap();
     Ok(form)
+}
+
+/// Whether the shelf has what the line at this place asks for, after the line was taken.
+fn is_served(shelf: &Shelf, numbers: &Numbers, place: usize) -> bool
+    ensures { IsServed (cards_of (λ v x. (⟦<dyn UnitKind as UnitKind>⟧ v).card x) shelf.now) numbers.now.found place result }
+{
+    if place != UNIT_LINE {
+        return true;
+    }
+    match numbers.form() {
+        Some(form) => find_addition(shelf, form.width).is_some(),
+        None => false,
+    }
 }

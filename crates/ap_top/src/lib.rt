@@ -1,6 +1,7 @@
 //! The program's one call: it reads the words of a command, does what they say on a desk, and answers a status.
 #![tactic(auto)]
 
+pub mod addition;
 pub mod command;
 pub mod design;
 pub mod example;

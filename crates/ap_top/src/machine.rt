@@ -1,15 +1,17 @@
 ghost use Rattle.std.specs.Prelude.{◌≡◌, ℕ, ◌+◌, ◌%◌, ◌^◌, ◌<◌, ◌≤◌, ◌==◌, ◌∷◌, [], List, codes, Some, if◌then◌else◌, IfOk, OnOk, bit_and};
+ghost use Rattle.ap_bits.specs.Cards.{FitsWidth};
 ghost use Rattle.ap_net.specs.declared.net.Instance.{Instance};
 ghost use Rattle.ap_net.specs.Names.{IsNew};
 ghost use Rattle.ap_net.specs.Cells.{IsNet};
-ghost use Rattle.ap_net.specs.Modules.{ModuleText, module_named};
+ghost use Rattle.ap_net.specs.Modules.{ModuleText, IsModule, IsNetlist, module_named};
 ghost use Rattle.ap_net.specs.Draft.{CanFresh, Makes, SettlesDraft, SettlesOpen, names_of};
 ghost use Rattle.ap_net.specs.Placing.{Places};
+ghost use Rattle.ap_unit.specs.Units.{IsUnit};
+ghost use Rattle.ap_top.specs.Additions.{Operation, IsQuick, result_of};
 ghost use Rattle.ap_top.specs.Form.{IsForm};
-ghost use Rattle.ap_top.specs.Adder.{IsAdder};
-ghost use Rattle.ap_top.specs.Base.{registers_alone, base, IsUnit, IsCircuit, IsShown, IsTop};
+ghost use Rattle.ap_top.specs.FormUnit.{IsFormUnit, IsSeen, unit_name};
+ghost use Rattle.ap_top.specs.Base.{registers_alone, base, IsPlaced, IsCircuit, IsShown, IsTop, IsTwoStage};
 ghost use Rattle.ap_top.specs.Circuits.{nets_of};
-ghost use Rattle.ap_top.specs.Processor.{IsDesign};
 
 use crate::form::Form;
 use ap_net::NoMemory;
@@ -17,6 +19,7 @@ use ap_net::builder::Builder;
 use ap_net::cell::{Cell, TwoOp, Wire};
 use ap_net::module::{Module, Netlist};
 use ap_net::solve::{names_are_found, netlists_open, solution_exists};
+use ap_unit::UnitKind;
 use std::alloc::Global;
 
 /// The registers: the pc, the description's register, and the valid bit and the word of stage 1.
@@ -89,48 +92,49 @@ fn make_enable(out: &mut Builder, valid: Wire, word: Wire, code: u64) -> Result<
     Ok(enable)
 }
 
-/// The register with the constant added, by an instance of the adder. The number of its operation `add` is 0.
+/// What the operation of this number gives of the register and the constant, by an instance of the unit, whose input `sel` has
+/// so many bits.
 fn make_sum(
     out: &mut Builder,
-    adder: &Module,
+    unit: &Module,
+    number: u32,
+    select: u32,
     register: Wire,
     constant: u64,
 ) -> Result<Wire, NoMemory>
     requires top { out.old.name ≡ codes "top" }
     requires fresh { CanFresh out.old }
     requires name { IsNew (codes "u_U") (names_of out.old) }
-    requires adder { IsAdder register.width adder.now }
+    requires unit { IsSeen register.width number select unit.now }
     requires register { IsNet out.old.nets register }
     requires low { 1 ≤ register.width }
     requires high { register.width ≤ 64 }
     requires constant { constant < 2 ^ register.width }
     ensures net { IfOk result (λ w. IsNet out.new.nets w × (w.width ≡ register.width)) }
-    ensures value { IfOk result (λ w. (modules : List ModuleText) → module_named modules adder.now.name ≡ Some adder.now → (read : ℕ → ℕ) (parts : ℕ → ℕ → ℕ) → SettlesOpen modules out.new read parts
-        → SettlesOpen modules out.old read parts × (read w.number ≡ (read register.number + constant) % 2 ^ register.width)) }
-    ensures places { OnOk result ((unit : Instance) × IsUnit adder.now unit × Places (unit ∷ []) out.old out.new) }
+    ensures value { IfOk result (λ w. (operation : Operation) → operation.number ≡ number → (exchange : ModuleText) → IsFormUnit operation register.width select exchange
+        → (modules : List ModuleText) → module_named modules exchange.name ≡ Some exchange → (read : ℕ → ℕ) (parts : ℕ → ℕ → ℕ) → SettlesOpen modules out.new read parts
+        → SettlesOpen modules out.old read parts × (read w.number ≡ result_of operation register.width (read register.number) constant)) }
+    ensures places { OnOk result ((placed : Instance) × IsPlaced register.width select placed × Places (placed ∷ []) out.old out.new) }
 {
-    let add = out.make(4, Cell::Const(0))?;
+    let sel = out.make(select, Cell::Const(u64::from(number)))?;
     let added = out.make(register.width, Cell::Const(constant))?;
-    let results = out.place(b"u_U", adder, &[add, register, added])?;
+    let results = out.place(b"u_U", unit, &[sel, register, added])?;
     Ok(results.as_slice()[0])
 }
 
-/// The module of an adder of this width, with the ports of a unit that takes one cycle. It adds whatever `sel` is.
-fn make_adder(alloc: Global, width: u32) -> Result<Module, NoMemory>
-    requires low { 1 ≤ width }
-    requires high { width ≤ 64 }
-    ensures { IfOk result (IsAdder width) }
+/// The module of a unit of this width, as its kind builds it.
+fn make_unit(alloc: Global, kind: &dyn UnitKind, width: u32) -> Result<Module, NoMemory>
+    requires { FitsWidth (card kind.now) width }
+    ensures name { IfOk result (λ m. m.name ≡ unit_name width) }
+    ensures kept { IfOk result (λ m. IsModule m) }
+    ensures unit { IfOk result (λ m. IsUnit m (card kind.now) width) }
 {
     let name = format!(in alloc; "k_alu_{width}")?;
     let mut out = Builder::new(alloc, name.as_bytes())?;
-    let _sel = out.input(b"sel", 4)?;
-    let a = out.input(b"a", width)?;
-    let b = out.input(b"b", width)?;
-    let y = out.output(b"y", width)?;
-    out.cell(y, Cell::Two(TwoOp::Add, a, b))?;
-    let adder = out.finish()?;
-    adder.rules();
-    Ok(adder)
+    kind.build(width, &mut out)?;
+    let unit = out.finish()?;
+    unit.rules();
+    Ok(unit)
 }
 
 /// The circuit of the machine over its registers, and the nets that the rest reads.
@@ -144,11 +148,17 @@ struct Circuit {
     one: Wire,
 }
 
-/// Builds the circuit, with an instance of the adder.
-fn make_circuit(alloc: Global, form: Form, adder: &Module) -> Result<Circuit, NoMemory>
+/// Builds the circuit, with an instance of the unit, which it gives the number of the operation.
+fn make_circuit(
+    alloc: Global,
+    form: Form,
+    unit: &Module,
+    number: u32,
+    select: u32,
+) -> Result<Circuit, NoMemory>
     requires form { IsForm form }
-    requires adder { IsAdder form.width adder.now }
-    ensures { IfOk result (λ c. IsCircuit form adder.now c.out (nets_of c)) }
+    requires unit { IsSeen form.width number select unit.now }
+    ensures { IfOk result (λ c. IsCircuit form number select c.out (nets_of c)) }
 {
     let pc = Wire {
         number: 0,
@@ -169,7 +179,7 @@ fn make_circuit(alloc: Global, form: Form, adder: &Module) -> Result<Circuit, No
     let mut out = with_ports(alloc, form)?;
     let next_address = make_next_address(&mut out, pc)?;
     let enable = make_enable(&mut out, valid, word, form.code)?;
-    let sum = make_sum(&mut out, adder, register, form.constant)?;
+    let sum = make_sum(&mut out, unit, number, select, register, form.constant)?;
     let written = out.make(form.width, Cell::Choose(enable, sum, register))?;
     let one = out.make(1, Cell::Const(1))?;
     Ok(Circuit {
@@ -183,13 +193,19 @@ fn make_circuit(alloc: Global, form: Form, adder: &Module) -> Result<Circuit, No
 }
 
 /// The circuit, and the write group shown: its enable and its value.
-fn make_shown(alloc: Global, form: Form, adder: &Module) -> Result<Circuit, NoMemory>
+fn make_shown(
+    alloc: Global,
+    form: Form,
+    unit: &Module,
+    number: u32,
+    select: u32,
+) -> Result<Circuit, NoMemory>
     requires form { IsForm form }
-    requires adder { IsAdder form.width adder.now }
-    ensures shown { IfOk result (λ c. IsShown form adder.now c.out (nets_of c)) }
+    requires unit { IsSeen form.width number select unit.now }
+    ensures shown { IfOk result (λ c. IsShown form number select c.out (nets_of c)) }
     ensures nexts { IfOk result (λ c. c.out.nexts ≡ []) }
 {
-    let mut circuit = make_circuit(alloc, form, adder)?;
+    let mut circuit = make_circuit(alloc, form, unit, number, select)?;
     let enable = circuit.enable;
     let sum = circuit.sum;
     let out = &mut circuit.out;
@@ -199,12 +215,10 @@ fn make_shown(alloc: Global, form: Form, adder: &Module) -> Result<Circuit, NoMe
 }
 
 /// Says what the registers take, and finishes the module.
-fn clocked(form: Form, adder: &Module, circuit: Circuit) -> Result<Module, NoMemory>
-    requires form { IsForm form }
-    requires adder { IsAdder form.width adder.now }
-    requires shown { IsShown form adder.now circuit.out (nets_of circuit) }
+fn clocked(form: Form, number: u32, select: u32, circuit: Circuit) -> Result<Module, NoMemory>
+    requires shown { IsShown form number select circuit.out (nets_of circuit) }
     requires nexts { circuit.out.nexts ≡ [] }
-    ensures { IfOk result (IsTop form adder.now) }
+    ensures { IfOk result (λ m. IsTop form number select m) }
 {
     let pc = Wire {
         number: 0,
@@ -240,25 +254,32 @@ fn clocked(form: Form, adder: &Module, circuit: Circuit) -> Result<Module, NoMem
 }
 
 /// The netlist of these two modules.
-fn joined(alloc: Global, form: Form, adder: Module, top: Module) -> Result<Netlist, NoMemory>
-    requires adder { IsAdder form.width adder }
-    requires top { IsTop form adder top }
-    ensures { IfOk result (IsDesign form) }
+fn joined(alloc: Global, unit: Module, top: Module) -> Result<Netlist, NoMemory>
+    requires { IsNetlist (unit ∷ top ∷ []) }
+    ensures { IfOk result (λ modules. modules ≡ unit ∷ top ∷ []) }
 {
     let mut modules = Vec::new(alloc);
-    modules.push(adder)?;
+    modules.push(unit)?;
     modules.push(top)?;
     Ok(Netlist::new(modules))
 }
 
-/// The processor of a form: the module of its unit, and the module `top` with a pc, the register, and one stage that holds a
-/// word or nothing.
-pub fn two_stage(alloc: Global, form: Form) -> Result<Netlist, NoMemory>
-    requires { IsForm form }
-    ensures { IfOk result (IsDesign form) }
+/// The processor of a form: the module of its unit, which this kind builds, and the module `top` with a pc, the register, and
+/// one stage that holds a word or nothing. Its adding instruction does the kind's operation of this number.
+pub fn two_stage(
+    alloc: Global,
+    form: Form,
+    kind: &dyn UnitKind,
+    add: u32,
+) -> Result<Netlist, NoMemory>
+    requires form { IsForm form }
+    requires quick { IsQuick (record { card = card kind.now; number = add }) form.width }
+    ensures { IfOk result (λ modules. IsTwoStage (record { card = card kind.now; number = add }) form modules) }
 {
-    let adder = make_adder(alloc, form.width)?;
-    let circuit = make_shown(alloc, form, &adder)?;
-    let top = clocked(form, &adder, circuit)?;
-    joined(alloc, form, adder, top)
+    let unit = make_unit(alloc, kind, form.width)?;
+    let select = unit.ports()[0].width;
+    let circuit = make_shown(alloc, form, &unit, add, select)?;
+    let top = clocked(form, add, select, circuit)?;
+    let design = joined(alloc, unit, top)?;
+    Ok(design)
 }

@@ -1,8 +1,13 @@
+mod kinds;
+
+use crate::addition::{Addition, find_addition};
 use crate::form::{Form, Judged, ReadFault, judge};
 use crate::serve::serve;
 use ap_desk::desk::Desk;
 use ap_desk::memory::{DeskCall, MemDesk};
 use ap_desk::sure::SureDesk;
+use ap_unit::{Shelf, UnitKind};
+use kinds::{empty_shelf, full_shelf, shelf_of_even_sums, shelf_of_less};
 use std::alloc::{AllocError, Global};
 use std::test::Fail;
 
@@ -44,9 +49,9 @@ fn words_of(alloc: Global, line: &str) -> Result<Vec<String>, AllocError> {
 }
 
 /// The status of a command; 255 where there is no memory for its words.
-fn status_of<D: Desk>(alloc: Global, line: &str, desk: &mut D) -> u8 {
+fn status_of<D: Desk>(alloc: Global, line: &str, shelf: &Shelf, desk: &mut D) -> u8 {
     match words_of(alloc, line) {
-        Ok(words) => serve(alloc, &words, desk),
+        Ok(words) => serve(alloc, &words, shelf, desk),
         Err(_) => 255,
     }
 }
@@ -60,7 +65,7 @@ fn only_printed(desk: &MemDesk, line: &str) -> bool {
 fn sure_text(alloc: Global, description: &[u8]) -> Result<Option<Vec<u8>>, Fail> {
     let mut desk = SureDesk::new(alloc);
     desk.put("d", description)?;
-    if status_of(alloc, "gen d v", &mut desk) != 0 {
+    if status_of(alloc, "gen d v", &full_shelf(alloc)?, &mut desk) != 0 {
         return Ok(None);
     }
     match desk.file("v") {
@@ -69,18 +74,24 @@ fn sure_text(alloc: Global, description: &[u8]) -> Result<Option<Vec<u8>>, Fail>
     }
 }
 
-/// The module of the unit, and then the head of the module `top`, for the first form with an address of 4 bits and words and a
-/// register of 8 bits.
+/// The module of the unit that has `sub` and `add`, and then the head of the module `top`, for the first form with an address of
+/// 4 bits and words and a register of 8 bits.
 fn unit_and_head_of_top() -> &'static str {
     "module k_alu_8 (
   input clk,
   input rst,
-  input [3:0] sel,
+  input [0:0] sel,
   input [7:0] a,
   input [7:0] b,
   output [7:0] y
 );
-  assign y = a + b;
+  wire [7:0] n0;
+  wire [7:0] n1;
+  wire [7:0] n2;
+  assign n0 = a - b;
+  assign n1 = a + b;
+  assign n2 = sel ? n1 : n0;
+  assign y = n2;
 endmodule
 module top (
   input clk,
@@ -108,7 +119,8 @@ fn a_description_gives_a_text(rt: HostRuntime) -> Result<(), Fail> {
     let description = accumulator().as_bytes();
     let text = sure_text(rt.alloc(), description)?.ok_or("no text")?;
     let mut desk = desk_of(rt.alloc(), description)?;
-    assert_eq!(rt; status_of(rt.alloc(), "gen d v", &mut desk), 0);
+    let shelf = full_shelf(rt.alloc())?;
+    assert_eq!(rt; status_of(rt.alloc(), "gen d v", &shelf, &mut desk), 0);
     assert_eq!(rt; desk.file("-"), None);
     assert_eq!(rt; desk.file("v"), Some(text.as_slice()));
     Ok(())
@@ -131,13 +143,14 @@ fn lines_that_are_no_command() -> [&'static str; 10] {
 
 #[test]
 fn words_that_are_no_command(rt: HostRuntime) -> Result<(), Fail> {
+    let shelf = full_shelf(rt.alloc())?;
     for line in lines_that_are_no_command() {
         let mut desk = desk_of(rt.alloc(), accumulator().as_bytes())?;
-        assert_eq!(rt; status_of(rt.alloc(), line, &mut desk), 1, "at {line}");
+        assert_eq!(rt; status_of(rt.alloc(), line, &shelf, &mut desk), 1, "at {line}");
         assert!(rt; only_printed(&desk, "usage\n"), "at {line}");
     }
     let mut desk = desk_of(rt.alloc(), b"")?;
-    assert_eq!(rt; serve(rt.alloc(), &[], &mut desk), 1);
+    assert_eq!(rt; serve(rt.alloc(), &[], &shelf, &mut desk), 1);
     Ok(())
 }
 
@@ -145,7 +158,8 @@ fn words_that_are_no_command(rt: HostRuntime) -> Result<(), Fail> {
 fn a_line_that_cannot_be_printed(rt: HostRuntime) -> Result<(), Fail> {
     let mut desk = desk_of(rt.alloc(), b"")?;
     desk.fail(DeskCall::Append, 0)?;
-    assert_eq!(rt; status_of(rt.alloc(), "gen", &mut desk), 6);
+    let shelf = full_shelf(rt.alloc())?;
+    assert_eq!(rt; status_of(rt.alloc(), "gen", &shelf, &mut desk), 6);
     assert!(rt; only_printed(&desk, "usadesk fault\n"));
     Ok(())
 }
@@ -153,17 +167,23 @@ fn a_line_that_cannot_be_printed(rt: HostRuntime) -> Result<(), Fail> {
 #[test]
 fn a_file_that_is_not_there(rt: HostRuntime) -> Result<(), Fail> {
     let mut desk = MemDesk::new(rt.alloc());
-    assert_eq!(rt; status_of(rt.alloc(), "gen q v", &mut desk), 6);
+    let shelf = full_shelf(rt.alloc())?;
+    assert_eq!(rt; status_of(rt.alloc(), "gen q v", &shelf, &mut desk), 6);
     assert_eq!(rt; (desk.fault_count(), desk.absent_count()), (0, 1));
     assert_eq!(rt; desk.file("v"), None);
     assert_eq!(rt; desk.file("-"), Some(b"desk fault\n".as_slice()));
     Ok(())
 }
 
-/// Whether the description is refused with this line.
-fn is_refused(alloc: Global, description: &[u8], line: &str) -> Result<bool, Fail> {
+/// Whether the description is refused with this line, by a program with this shelf.
+fn is_refused(
+    alloc: Global,
+    description: &[u8],
+    shelf: &Shelf,
+    line: &str,
+) -> Result<bool, Fail> {
     let mut desk = desk_of(alloc, description)?;
-    let status = status_of(alloc, "gen d v", &mut desk);
+    let status = status_of(alloc, "gen d v", shelf, &mut desk);
     Ok(status == 2 && only_printed(&desk, line))
 }
 
@@ -187,18 +207,19 @@ fn changes_with_a_fault() -> [(&'static str, &'static str, &'static str); 7] {
 #[test]
 fn descriptions_with_a_fault(rt: HostRuntime) -> Result<(), Fail> {
     let alloc = rt.alloc();
+    let shelf = full_shelf(alloc)?;
     for (from, to, fault) in changes_with_a_fault() {
         let text = accumulator().replace(alloc, from, to)?;
         let line = format!(in alloc; "description: {fault}\n")?;
         assert!(rt;
-            is_refused(alloc, text.as_bytes(), line.as_str())?,
+            is_refused(alloc, text.as_bytes(), &shelf, line.as_str())?,
             "at {to}"
         );
     }
     let limit = vec![in alloc; b'#'; 1_048_576]?;
-    assert!(rt; is_refused(alloc, &limit, "description: line 0: F4 Missing\n")?);
+    assert!(rt; is_refused(alloc, &limit, &shelf, "description: line 0: F4 Missing\n")?);
     let long = vec![in alloc; b'#'; 1_048_577]?;
-    assert!(rt; is_refused(alloc, &long, "description: line 0: F5 TooLong\n")?);
+    assert!(rt; is_refused(alloc, &long, &shelf, "description: line 0: F5 TooLong\n")?);
     Ok(())
 }
 
@@ -230,7 +251,7 @@ fn stand_of(desk: &MemDesk, status: u8, whole: &[u8]) -> After {
 fn after_failing(alloc: Global, call: DeskCall, number: u64, whole: &[u8]) -> Result<After, Fail> {
     let mut desk = desk_of(alloc, accumulator().as_bytes())?;
     desk.fail(call, number)?;
-    let status = status_of(alloc, "gen d v", &mut desk);
+    let status = status_of(alloc, "gen d v", &full_shelf(alloc)?, &mut desk);
     Ok(stand_of(&desk, status, whole))
 }
 
@@ -329,14 +350,15 @@ fn spellings_of_none() -> [([&'static str; 6], u32); 10] {
 
 #[test]
 fn numbers_within_their_ranges(rt: HostRuntime) -> Result<(), Fail> {
+    let shelf = full_shelf(rt.alloc())?;
     for (numbers, form) in spellings_of_forms() {
         let text = spelled(rt.alloc(), numbers)?;
-        assert_eq!(rt; judge(rt.alloc(), text.as_bytes()), Ok(form));
+        assert_eq!(rt; judge(rt.alloc(), text.as_bytes(), &shelf), Ok(form));
     }
     for (numbers, line) in spellings_of_none() {
         let text = spelled(rt.alloc(), numbers)?;
         let fault = ReadFault::Refused(Judged::NotBuilt { line });
-        assert_eq!(rt; judge(rt.alloc(), text.as_bytes()), Err(fault), "at {text}");
+        assert_eq!(rt; judge(rt.alloc(), text.as_bytes(), &shelf), Err(fault), "at {text}");
     }
     Ok(())
 }
@@ -369,13 +391,10 @@ fn changes_that_are_not_built() -> [(&'static str, &'static str, u32); 9] {
 }
 
 /// What is judged of the description after a change.
-fn judged_after(
-    alloc: Global,
-    from: &str,
-    to: &str,
-) -> Result<Result<Form, ReadFault>, AllocError> {
+fn judged_after(alloc: Global, from: &str, to: &str) -> Result<Result<Form, ReadFault>, Fail> {
     let text = accumulator().replace(alloc, from, to)?;
-    Ok(judge(alloc, text.as_bytes()))
+    let shelf = full_shelf(alloc)?;
+    Ok(judge(alloc, text.as_bytes(), &shelf))
 }
 
 #[test]
@@ -387,5 +406,82 @@ fn lines_as_they_are_due(rt: HostRuntime) -> Result<(), Fail> {
         let fault = ReadFault::Refused(Judged::NotBuilt { line });
         assert_eq!(rt; judged_after(rt.alloc(), from, to)?, Err(fault), "at {to}");
     }
+    Ok(())
+}
+
+#[test]
+fn the_operation_that_adds(rt: HostRuntime) -> Result<(), Fail> {
+    let alloc = rt.alloc();
+    let second = Addition {
+        place: 0,
+        number: 1,
+    };
+    assert_eq!(rt; find_addition(&full_shelf(alloc)?, 9), Some(second));
+    assert_eq!(rt; find_addition(&empty_shelf(alloc)?, 8), None);
+    assert_eq!(rt; find_addition(&shelf_of_less(alloc)?, 8), None);
+    let first = Addition {
+        place: 0,
+        number: 0,
+    };
+    assert_eq!(rt; find_addition(&shelf_of_even_sums(alloc)?, 8), Some(first));
+    assert_eq!(rt; find_addition(&shelf_of_even_sums(alloc)?, 9), None);
+    Ok(())
+}
+
+/// The line that is printed where the shelf lacks what the line `unit` at line 6 asks for.
+const NO_UNIT: &str = "description: line 6: F0 NotBuilt\n";
+
+#[test]
+fn shelves_without_the_unit(rt: HostRuntime) -> Result<(), Fail> {
+    let alloc = rt.alloc();
+    let text = accumulator().as_bytes();
+    assert!(rt; is_refused(alloc, text, &empty_shelf(alloc)?, NO_UNIT)?);
+    assert!(rt; is_refused(alloc, text, &shelf_of_less(alloc)?, NO_UNIT)?);
+    let wide = spelled(alloc, ["4", "8", "9", "3", "1", "250"])?;
+    let powers = shelf_of_even_sums(alloc)?;
+    assert!(rt; is_refused(alloc, wide.as_bytes(), &powers, NO_UNIT)?);
+    let later = accumulator().replace(alloc, "unit U", "# adds\nunit U")?;
+    assert!(rt;
+        is_refused(
+            alloc,
+            later.as_bytes(),
+            &empty_shelf(alloc)?,
+            "description: line 7: F0 NotBuilt\n"
+        )?
+    );
+    Ok(())
+}
+
+#[test]
+fn a_line_before_the_unit_comes_first(rt: HostRuntime) -> Result<(), Fail> {
+    let alloc = rt.alloc();
+    let text = accumulator().replace(alloc, "transfer 1 0", "transfer 1 00")?;
+    assert!(rt;
+        is_refused(
+            alloc,
+            text.as_bytes(),
+            &empty_shelf(alloc)?,
+            "description: line 4: F0 NotBuilt\n"
+        )?
+    );
+    Ok(())
+}
+
+#[test]
+fn no_file_is_made_without_the_unit(rt: HostRuntime) -> Result<(), Fail> {
+    let mut desk = MemDesk::new(rt.alloc());
+    desk.put("d", accumulator().as_bytes())?;
+    let shelf = empty_shelf(rt.alloc())?;
+    assert_eq!(rt; status_of(rt.alloc(), "gen d v", &shelf, &mut desk), 2);
+    assert_eq!(rt; desk.file("v"), None);
+    assert_eq!(rt; desk.file("-"), Some(NO_UNIT.as_bytes()));
+    Ok(())
+}
+
+#[test]
+fn widths_that_the_unit_has(rt: HostRuntime) -> Result<(), Fail> {
+    let mut desk = desk_of(rt.alloc(), accumulator().as_bytes())?;
+    let shelf = shelf_of_even_sums(rt.alloc())?;
+    assert_eq!(rt; status_of(rt.alloc(), "gen d v", &shelf, &mut desk), 0);
     Ok(())
 }

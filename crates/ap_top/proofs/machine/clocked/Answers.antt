@@ -10,12 +10,12 @@ use Rattle.ap_top.proofs.machine.clocked.Goals as goal
 pub finish-requires-clause-driven : goal.finish-requires-clause-driven
 finish-requires-clause-driven c =
     let all = pushed_four (c.args.circuit).out _ _ _ c.next-4.new.self _ _ _ _ c.requires.nexts c.in_ok-next.ensures.ok c.in_ok-next-2.ensures.ok c.in_ok-next-3.ensures.ok c.in_ok-next-4.ensures.ok in
-    subst (λ (x : Draft). IsDriven x.nets x.assigns x.nexts x.instances) (sym all) (clocked-IsDriven c.args.form c.args.adder.now (c.args.circuit).out (nets_of c.args.circuit) c.requires.shown)
+    subst (λ (x : Draft). IsDriven x.nets x.assigns x.nexts x.instances) (sym all) (clocked-IsDriven c.args.form c.args.number c.args.select (c.args.circuit).out (nets_of c.args.circuit) c.requires.shown)
 
 pub returns : goal.returns
-returns c =
+returns c = λ operation same unit is.
     let d : Draft = (c.args.circuit).out in
     let all : c.next-4.new.self ≡ clocked_draft c.args.form d (nets_of c.args.circuit) =
     pushed_four (c.args.circuit).out _ _ _ c.next-4.new.self _ _ _ _ c.requires.nexts c.in_ok-next.ensures.ok c.in_ok-next-2.ensures.ok c.in_ok-next-3.ensures.ok c.in_ok-next-4.ensures.ok in
-    designed c.args.form c.requires.form c.args.adder.now c.requires.adder d (nets_of c.args.circuit) c.requires.shown c.in_ok-top.top (subst (λ (x : Draft). IsFinished x c.in_ok-top.top) all c.in_ok-top.ensures) c.rules.ensures
+    designed c.args.form operation c.args.number c.args.select same unit is d (nets_of c.args.circuit) c.requires.shown c.in_ok-top.top (subst (λ (x : Draft). IsFinished x c.in_ok-top.top) all c.in_ok-top.ensures) c.rules.ensures
     c.names_are_found.ensures.nets c.names_are_found.ensures.registers c.solution_exists.ensures c.netlists_open.ensures

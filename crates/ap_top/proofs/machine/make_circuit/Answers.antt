@@ -1,8 +1,8 @@
-use Rattle.std.proofs.Common.{◌≡◌, [], ◌∷◌, refl, subst}
+use Rattle.std.proofs.Common.{[], ◌∷◌, refl, subst}
 use Rattle.std.specs.Prelude.{codes}
 use Rattle.ap_net.specs.declared.net.Instance.{Instance}
 use Rattle.ap_net.specs.Cells.{IsNet}
-use Rattle.ap_net.specs.Draft.{Adds, Makes, SettlesDraft, SettlesOpen, names_of}
+use Rattle.ap_net.specs.Draft.{Adds, Makes, SettlesDraft, names_of}
 use Rattle.ap_net.specs.Placing.{Places}
 use Rattle.ap_net.proofs.Laws.{Adds-trans, Makes-trans, IsNet-Makes, IsNet-Adds, IsNew-is_new, IsNotNumbered-other, Places-Makes, Places-trans, SettlesOpen-before}
 use Rattle.ap_top.specs.Base.{base, wire}
@@ -46,17 +46,17 @@ returns c =
     let from_address = Adds-trans _ _ _ c.in_ok-enable.ensures.makes.adds from_enable in
     record {
       unit = unit;
-      is_unit = c.in_ok-sum.ensures.places.1;
+      is_placed = c.in_ok-sum.ensures.places.1;
       places = Places-trans (unit ∷ []) [] _ _ _ (Places-trans [] (unit ∷ []) _ _ _ (Places-Makes _ _ to_enable) placed) (Places-Makes _ _ last);
       next_address = (IsNet-Adds _ _ _ from_address c.in_ok-next_address.ensures.net.0, c.in_ok-next_address.ensures.net.1);
       enable = (IsNet-Adds _ _ _ from_enable c.in_ok-enable.ensures.net.0, c.in_ok-enable.ensures.net.1);
       sum = (IsNet-Makes _ _ _ last c.in_ok-sum.ensures.net.0, c.in_ok-sum.ensures.net.1);
       written = (IsNet-Makes _ _ _ c.in_ok-one.ensures.makes c.in_ok-written.ensures.net.0, c.in_ok-written.ensures.net.1);
       one = c.in_ok-one.ensures.net;
-      equations = λ modules found read parts s.
+      equations = λ operation same exchange is modules found read parts s.
           let one = c.in_ok-one.ensures.value read s.own in
           let written = c.in_ok-written.ensures.value read one.0 in
-          let sum = c.in_ok-sum.ensures.value modules found read parts (SettlesOpen-before modules _ _ read parts last.adds.extends s) in
+          let sum = c.in_ok-sum.ensures.value operation same exchange is modules found read parts (SettlesOpen-before modules _ _ read parts last.adds.extends s) in
           let enable = c.in_ok-enable.ensures.value read (sum.0).own in
           let address = c.in_ok-next_address.ensures.value read enable.0 in
           let ports : SettlesDraft (base c.args.form) read = subst (λ d. SettlesDraft d read) c.in_ok-out.ensures address.0 in

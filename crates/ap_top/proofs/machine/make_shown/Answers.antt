@@ -1,8 +1,8 @@
-use Rattle.std.proofs.Common.{◌≡◌, ◌≢◌, ◌∙◌, ◌++◌, ◌∷◌, [], List, refl, ap, sym}
+use Rattle.std.proofs.Common.{◌≢◌, ◌∙◌, ◌++◌, ◌∷◌, [], List, refl, ap, sym}
 use Rattle.std.specs.Prelude.{codes}
 use Rattle.ap_net.specs.declared.net.Port.{Port}
 use Rattle.ap_net.specs.Names.{IsNew}
-use Rattle.ap_net.specs.Draft.{SettlesOpen, names_of}
+use Rattle.ap_net.specs.Draft.{names_of}
 use Rattle.ap_net.specs.Modules.{ports_among}
 use Rattle.ap_net.specs.Outside.{output}
 use Rattle.ap_net.proofs.Laws.{Adds-trans, Closes-trans, IsNet-Adds, IsNew-is_new, IsNew-made, IsNotNumbered-other, net-Adds, ports_among-shown, SettlesOpen-before}
@@ -24,12 +24,12 @@ unit_apart = ((IsNew-is_new (codes "w_R_e") (codes "u_U" ∷ []) refl).0, (IsNew
 pub show-requires-clause-name : goal.show-requires-clause-name
 show-requires-clause-name c =
     let circuit = c.in_ok-circuit.ensures in
-    circuit.places.names (codes "w_R_e") (IsNotNumbered-other (codes "w_R_e") refl) ((λ e. unit_apart.0 (sym circuit.is_unit.0 ∙ e)), tt) (new_in_base c.args.form).0
+    circuit.places.names (codes "w_R_e") (IsNotNumbered-other (codes "w_R_e") refl) ((λ e. unit_apart.0 (sym circuit.is_placed.name ∙ e)), tt) (new_in_base c.args.form).0
 
 pub show-requires-2-clause-name : goal.show-requires-2-clause-name
 show-requires-2-clause-name c =
     let circuit = c.in_ok-circuit.ensures in
-    rw (c.in_ok-show.ensures.nets, c.in_ok-show.ensures.instances) (IsNew-made _ _ _ (codes "w_R_v") apart (circuit.places.names (codes "w_R_v") (IsNotNumbered-other (codes "w_R_v") refl) ((λ e. unit_apart.1 (sym circuit.is_unit.0 ∙ e)), tt) (new_in_base c.args.form).1))
+    rw (c.in_ok-show.ensures.nets, c.in_ok-show.ensures.instances) (IsNew-made _ _ _ (codes "w_R_v") apart (circuit.places.names (codes "w_R_v") (IsNotNumbered-other (codes "w_R_v") refl) ((λ e. unit_apart.1 (sym circuit.is_placed.name ∙ e)), tt) (new_in_base c.args.form).1))
 
 pub show-requires-2-clause-fits : goal.show-requires-2-clause-fits
 show-requires-2-clause-fits c = (IsNet-Adds _ _ _ c.in_ok-show.ensures.adds c.in_ok-circuit.ensures.sum.0, c.in_ok-circuit.ensures.sum.1)
@@ -40,7 +40,7 @@ returns-clause-shown c =
     let adds = Adds-trans _ _ _ c.in_ok-show.ensures.adds c.in_ok-show-2.ensures.adds in
     record {
       unit = circuit.unit;
-      is_unit = circuit.is_unit;
+      is_placed = circuit.is_placed;
       instances = c.in_ok-show-2.ensures.instances ∙ c.in_ok-show.ensures.instances ∙ circuit.places.instances;
       adds = Adds-trans _ _ _ circuit.places.adds adds;
       closes = Closes-trans _ _ _ circuit.places.closes (Closes-trans _ _ _ c.in_ok-show.ensures.closes c.in_ok-show-2.ensures.closes);
@@ -54,8 +54,9 @@ returns-clause-shown c =
       write_value = (c.in_ok-show-2.field-0).number;
       enable_there = net-Adds _ _ _ _ c.in_ok-show-2.ensures.adds c.in_ok-show.ensures.there;
       value_there = c.in_ok-show-2.ensures.there;
-      equations = λ modules found read parts s.
+      equations = λ operation same exchange is modules found read parts s. circuit.equations operation same exchange is modules found read parts (SettlesOpen-before modules _ _ read parts adds.extends s);
+      shows = λ modules read parts s.
           let value = c.in_ok-show-2.ensures.value read s.own in
           let enable = c.in_ok-show.ensures.value read value.0 in
-          (circuit.equations modules found read parts (SettlesOpen-before modules _ _ read parts adds.extends s), enable.1, value.1);
+          (enable.1, value.1);
     }

@@ -1,0 +1,12 @@
+use Rattle.std.proofs.Common.{◌∙◌, refl}
+use Rattle.ap_unit.proofs.Laws.{shown_unit}
+use Rattle.ap_top.specs.TestCards.{less_card}
+use Rattle.ap_top.proofs.TestValues.{subtracted}
+use Rattle.ap_top.proofs.tests.kinds.LessUnitKind.build.Goals as goal
+
+pub returns-clause-unit : goal.returns-clause-unit
+returns-clause-unit c =
+    let i = c.in_ok-inputs.inputs in
+    shown_unit less_card 1 c.args.w i c.make.new.self c.show_result.new.out c.in_ok-y.y c.in_ok-inputs.ensures.inputs refl refl
+    (λ read s lt. (c.in_ok-y.ensures.value read s).1 ∙ subtracted i.a.width (read i.sel.number) (read i.a.number) (read i.b.number) lt)
+    c.in_ok-show_result.ensures.unit
