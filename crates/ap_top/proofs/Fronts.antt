@@ -121,12 +121,12 @@ begun_more cards found next lines i due line lt lt' e g h takes served =
       (λ all. let both = beside_split (IsLine form) (take i first_form) (take i lines) due line (rw (e, g) at all) in (takes.some refl form).1 ((h.same form).1 both.0, both.1)),
     ) in
     let here : (form : Form) → Agrees next form → i ≡ 5 → HasAddition cards form.width = λ form agrees is.
-        let other = served.yes refl is in
-        let all : (form : Form) → Agrees next form → AreLines form (take 6 first_form) (take 6 lines) = λ form agrees. subst (λ n. AreLines form (take (n + 1) first_form) (take (n + 1) lines)) is ((same form).0 agrees) in
-        subst (λ w. HasAddition cards w) (same_width other.0 form (take 6 lines) (all other.0 other.1) (all form agrees)) other.2 in
+    let other = served.yes refl is in
+    let all : (form : Form) → Agrees next form → AreLines form (take 6 first_form) (take 6 lines) = λ form agrees. subst (λ n. AreLines form (take (n + 1) first_form) (take (n + 1) lines)) is ((same form).0 agrees) in
+    subst (λ w. HasAddition cards w) (same_width other.0 form (take 6 lines) (all other.0 other.1) (all form agrees)) other.2 in
     let units : (form : Form) → Agrees next form → HasUnit cards form (take (i + 1) lines) = λ form agrees lt.
-        let reached : 5 < i + 1 = rw (length_front (i + 1) lines (omega arith)) at lt in
-        ⊎_elim (λ past. h.units form ((takes.some refl form).0 agrees).0 (rw (length_front i lines (omega arith)) past)) (λ not_past. here form agrees (omega arith)) (cases_lt 5 i) in
+    let reached : 5 < i + 1 = rw (length_front (i + 1) lines (omega arith)) at lt in
+    ⊎_elim (λ past. h.units form ((takes.some refl form).0 agrees).0 (rw (length_front i lines (omega arith)) past)) (λ not_past. here form agrees (omega arith)) (cases_lt 5 i) in
     let form = takes.fits refl in
     record {
       within = omega arith;

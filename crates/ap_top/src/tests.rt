@@ -7,7 +7,7 @@ use ap_desk::desk::Desk;
 use ap_desk::memory::{DeskCall, MemDesk};
 use ap_desk::sure::SureDesk;
 use ap_unit::{Shelf, UnitKind};
-use kinds::{empty_shelf, full_shelf, shelf_of_even_sums, shelf_of_less};
+use kinds::{EvenSum, Less, LessAndSum, empty_shelf, shelf_of};
 use std::alloc::{AllocError, Global};
 use std::test::Fail;
 
@@ -65,7 +65,13 @@ fn only_printed(desk: &MemDesk, line: &str) -> bool {
 fn sure_text(alloc: Global, description: &[u8]) -> Result<Option<Vec<u8>>, Fail> {
     let mut desk = SureDesk::new(alloc);
     desk.put("d", description)?;
-    if status_of(alloc, "gen d v", &full_shelf(alloc)?, &mut desk) != 0 {
+    if status_of(
+        alloc,
+        "gen d v",
+        &shelf_of(alloc, Box::new(alloc, LessAndSum)?)?,
+        &mut desk,
+    ) != 0
+    {
         return Ok(None);
     }
     match desk.file("v") {
@@ -119,7 +125,7 @@ fn a_description_gives_a_text(rt: HostRuntime) -> Result<(), Fail> {
     let description = accumulator().as_bytes();
     let text = sure_text(rt.alloc(), description)?.ok_or("no text")?;
     let mut desk = desk_of(rt.alloc(), description)?;
-    let shelf = full_shelf(rt.alloc())?;
+    let shelf = shelf_of(rt.alloc(), Box::new(rt.alloc(), LessAndSum)?)?;
     assert_eq!(rt; status_of(rt.alloc(), "gen d v", &shelf, &mut desk), 0);
     assert_eq!(rt; desk.file("-"), None);
     assert_eq!(rt; desk.file("v"), Some(text.as_slice()));
@@ -143,10 +149,14 @@ fn lines_that_are_no_command() -> [&'static str; 10] {
 
 #[test]
 fn words_that_are_no_command(rt: HostRuntime) -> Result<(), Fail> {
-    let shelf = full_shelf(rt.alloc())?;
+    let shelf = shelf_of(rt.alloc(), Box::new(rt.alloc(), LessAndSum)?)?;
     for line in lines_that_are_no_command() {
         let mut desk = desk_of(rt.alloc(), accumulator().as_bytes())?;
-        assert_eq!(rt; status_of(rt.alloc(), line, &shelf, &mut desk), 1, "at {line}");
+        assert_eq!(rt;
+            status_of(rt.alloc(), line, &shelf, &mut desk),
+            1,
+            "at {line}"
+        );
         assert!(rt; only_printed(&desk, "usage\n"), "at {line}");
     }
     let mut desk = desk_of(rt.alloc(), b"")?;
@@ -158,7 +168,7 @@ fn words_that_are_no_command(rt: HostRuntime) -> Result<(), Fail> {
 fn a_line_that_cannot_be_printed(rt: HostRuntime) -> Result<(), Fail> {
     let mut desk = desk_of(rt.alloc(), b"")?;
     desk.fail(DeskCall::Append, 0)?;
-    let shelf = full_shelf(rt.alloc())?;
+    let shelf = shelf_of(rt.alloc(), Box::new(rt.alloc(), LessAndSum)?)?;
     assert_eq!(rt; status_of(rt.alloc(), "gen", &shelf, &mut desk), 6);
     assert!(rt; only_printed(&desk, "usadesk fault\n"));
     Ok(())
@@ -167,7 +177,7 @@ fn a_line_that_cannot_be_printed(rt: HostRuntime) -> Result<(), Fail> {
 #[test]
 fn a_file_that_is_not_there(rt: HostRuntime) -> Result<(), Fail> {
     let mut desk = MemDesk::new(rt.alloc());
-    let shelf = full_shelf(rt.alloc())?;
+    let shelf = shelf_of(rt.alloc(), Box::new(rt.alloc(), LessAndSum)?)?;
     assert_eq!(rt; status_of(rt.alloc(), "gen q v", &shelf, &mut desk), 6);
     assert_eq!(rt; (desk.fault_count(), desk.absent_count()), (0, 1));
     assert_eq!(rt; desk.file("v"), None);
@@ -176,12 +186,7 @@ fn a_file_that_is_not_there(rt: HostRuntime) -> Result<(), Fail> {
 }
 
 /// Whether the description is refused with this line, by a program with this shelf.
-fn is_refused(
-    alloc: Global,
-    description: &[u8],
-    shelf: &Shelf,
-    line: &str,
-) -> Result<bool, Fail> {
+fn is_refused(alloc: Global, description: &[u8], shelf: &Shelf, line: &str) -> Result<bool, Fail> {
     let mut desk = desk_of(alloc, description)?;
     let status = status_of(alloc, "gen d v", shelf, &mut desk);
     Ok(status == 2 && only_printed(&desk, line))
@@ -207,7 +212,7 @@ fn changes_with_a_fault() -> [(&'static str, &'static str, &'static str); 7] {
 #[test]
 fn descriptions_with_a_fault(rt: HostRuntime) -> Result<(), Fail> {
     let alloc = rt.alloc();
-    let shelf = full_shelf(alloc)?;
+    let shelf = shelf_of(alloc, Box::new(alloc, LessAndSum)?)?;
     for (from, to, fault) in changes_with_a_fault() {
         let text = accumulator().replace(alloc, from, to)?;
         let line = format!(in alloc; "description: {fault}\n")?;
@@ -251,7 +256,12 @@ fn stand_of(desk: &MemDesk, status: u8, whole: &[u8]) -> After {
 fn after_failing(alloc: Global, call: DeskCall, number: u64, whole: &[u8]) -> Result<After, Fail> {
     let mut desk = desk_of(alloc, accumulator().as_bytes())?;
     desk.fail(call, number)?;
-    let status = status_of(alloc, "gen d v", &full_shelf(alloc)?, &mut desk);
+    let status = status_of(
+        alloc,
+        "gen d v",
+        &shelf_of(alloc, Box::new(alloc, LessAndSum)?)?,
+        &mut desk,
+    );
     Ok(stand_of(&desk, status, whole))
 }
 
@@ -350,7 +360,7 @@ fn spellings_of_none() -> [([&'static str; 6], u32); 10] {
 
 #[test]
 fn numbers_within_their_ranges(rt: HostRuntime) -> Result<(), Fail> {
-    let shelf = full_shelf(rt.alloc())?;
+    let shelf = shelf_of(rt.alloc(), Box::new(rt.alloc(), LessAndSum)?)?;
     for (numbers, form) in spellings_of_forms() {
         let text = spelled(rt.alloc(), numbers)?;
         assert_eq!(rt; judge(rt.alloc(), text.as_bytes(), &shelf), Ok(form));
@@ -358,7 +368,11 @@ fn numbers_within_their_ranges(rt: HostRuntime) -> Result<(), Fail> {
     for (numbers, line) in spellings_of_none() {
         let text = spelled(rt.alloc(), numbers)?;
         let fault = ReadFault::Refused(Judged::NotBuilt { line });
-        assert_eq!(rt; judge(rt.alloc(), text.as_bytes(), &shelf), Err(fault), "at {text}");
+        assert_eq!(rt;
+            judge(rt.alloc(), text.as_bytes(), &shelf),
+            Err(fault),
+            "at {text}"
+        );
     }
     Ok(())
 }
@@ -393,7 +407,7 @@ fn changes_that_are_not_built() -> [(&'static str, &'static str, u32); 9] {
 /// What is judged of the description after a change.
 fn judged_after(alloc: Global, from: &str, to: &str) -> Result<Result<Form, ReadFault>, Fail> {
     let text = accumulator().replace(alloc, from, to)?;
-    let shelf = full_shelf(alloc)?;
+    let shelf = shelf_of(alloc, Box::new(alloc, LessAndSum)?)?;
     Ok(judge(alloc, text.as_bytes(), &shelf))
 }
 
@@ -416,15 +430,27 @@ fn the_operation_that_adds(rt: HostRuntime) -> Result<(), Fail> {
         place: 0,
         number: 1,
     };
-    assert_eq!(rt; find_addition(&full_shelf(alloc)?, 9), Some(second));
+    assert_eq!(rt;
+        find_addition(&shelf_of(alloc, Box::new(alloc, LessAndSum)?)?, 9),
+        Some(second)
+    );
     assert_eq!(rt; find_addition(&empty_shelf(alloc)?, 8), None);
-    assert_eq!(rt; find_addition(&shelf_of_less(alloc)?, 8), None);
+    assert_eq!(rt;
+        find_addition(&shelf_of(alloc, Box::new(alloc, Less)?)?, 8),
+        None
+    );
     let first = Addition {
         place: 0,
         number: 0,
     };
-    assert_eq!(rt; find_addition(&shelf_of_even_sums(alloc)?, 8), Some(first));
-    assert_eq!(rt; find_addition(&shelf_of_even_sums(alloc)?, 9), None);
+    assert_eq!(rt;
+        find_addition(&shelf_of(alloc, Box::new(alloc, EvenSum)?)?, 8),
+        Some(first)
+    );
+    assert_eq!(rt;
+        find_addition(&shelf_of(alloc, Box::new(alloc, EvenSum)?)?, 9),
+        None
+    );
     Ok(())
 }
 
@@ -436,9 +462,16 @@ fn shelves_without_the_unit(rt: HostRuntime) -> Result<(), Fail> {
     let alloc = rt.alloc();
     let text = accumulator().as_bytes();
     assert!(rt; is_refused(alloc, text, &empty_shelf(alloc)?, NO_UNIT)?);
-    assert!(rt; is_refused(alloc, text, &shelf_of_less(alloc)?, NO_UNIT)?);
+    assert!(rt;
+        is_refused(
+            alloc,
+            text,
+            &shelf_of(alloc, Box::new(alloc, Less)?)?,
+            NO_UNIT
+        )?
+    );
     let wide = spelled(alloc, ["4", "8", "9", "3", "1", "250"])?;
-    let powers = shelf_of_even_sums(alloc)?;
+    let powers = shelf_of(alloc, Box::new(alloc, EvenSum)?)?;
     assert!(rt; is_refused(alloc, wide.as_bytes(), &powers, NO_UNIT)?);
     let later = accumulator().replace(alloc, "unit U", "# adds\nunit U")?;
     assert!(rt;
@@ -481,7 +514,7 @@ fn no_file_is_made_without_the_unit(rt: HostRuntime) -> Result<(), Fail> {
 #[test]
 fn widths_that_the_unit_has(rt: HostRuntime) -> Result<(), Fail> {
     let mut desk = desk_of(rt.alloc(), accumulator().as_bytes())?;
-    let shelf = shelf_of_even_sums(rt.alloc())?;
+    let shelf = shelf_of(rt.alloc(), Box::new(rt.alloc(), EvenSum)?)?;
     assert_eq!(rt; status_of(rt.alloc(), "gen d v", &shelf, &mut desk), 0);
     Ok(())
 }

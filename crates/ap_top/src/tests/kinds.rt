@@ -162,23 +162,9 @@ pub fn empty_shelf(alloc: Global) -> Result<Shelf, Fail> {
     Ok(Shelf::new(kinds).ok().ok_or("two kinds of one name")?)
 }
 
-/// A shelf of the kind that has `sub` and `add`.
-pub fn full_shelf(alloc: Global) -> Result<Shelf, Fail> {
+/// A shelf of one kind.
+pub fn shelf_of(alloc: Global, kind: Box<dyn UnitKind>) -> Result<Shelf, Fail> {
     let mut kinds: Vec<Box<dyn UnitKind>> = Vec::new(alloc);
-    kinds.push(Box::new(alloc, LessAndSum)?)?;
-    Ok(Shelf::new(kinds).ok().ok_or("two kinds of one name")?)
-}
-
-/// A shelf of the kind that has `sub` alone.
-pub fn shelf_of_less(alloc: Global) -> Result<Shelf, Fail> {
-    let mut kinds: Vec<Box<dyn UnitKind>> = Vec::new(alloc);
-    kinds.push(Box::new(alloc, Less)?)?;
-    Ok(Shelf::new(kinds).ok().ok_or("two kinds of one name")?)
-}
-
-/// A shelf of the kind whose widths are powers of two.
-pub fn shelf_of_even_sums(alloc: Global) -> Result<Shelf, Fail> {
-    let mut kinds: Vec<Box<dyn UnitKind>> = Vec::new(alloc);
-    kinds.push(Box::new(alloc, EvenSum)?)?;
+    kinds.push(kind)?;
     Ok(Shelf::new(kinds).ok().ok_or("two kinds of one name")?)
 }
