@@ -17,7 +17,7 @@ use Rattle.ap_unit.specs.Cards.{operation_names}
 use Rattle.ap_unit.specs.Kinds.{place_of}
 use Rattle.ap_top.specs.declared.addition.Addition.{Addition}
 use Rattle.ap_top.specs.declared.form.Form.{Form}
-use Rattle.ap_top.specs.Additions.{Operation, IsAddition, IsQuick}
+use Rattle.ap_top.specs.Additions.{Operation, IsAddition}
 use Rattle.ap_top.specs.Form.{HasAddition, unit_line}
 use Rattle.ap_top.specs.Found.{Agrees, IsServed}
 
@@ -48,13 +48,7 @@ one_of WidthPlusOne PowersOfTwo w fits e = let none : w ≡ 0 = omega arith in l
 pub one_cycle : (card : Card) (w : ℕ) → FitsWidth card w → latency_at card w ≡ 1 → card.latency ≡ One
 one_cycle card w fits e = one_of card.latency card.widths w fits e
 
--- where the kind is found, each addition is one of its operations
-pub of_kind : (cards : List Card) (w place : ℕ) (card : Card) (operation : Operation) → Some place ≡ place_of (codes "alu") cards → slice_get cards place ≡ Some card → IsAddition cards w operation → operation.card ≡ card
-of_kind cards w place card operation found at is =
-    let same : is.place ≡ place = let e = sym is.named ∙ sym found in cc in
-    let its : Some operation.card ≡ Some card = sym is.card ∙ ap (slice_get cards) same ∙ at in
-    cc
-
+-- two names differ where they aren't told equal
 pub other_name : (a b : List ℕ) (r : Bool) → r ≡ bytes_eq a b → r ≡ false → a ≡ b → ⊥
 other_name a b r e isnt same = let yes : bytes_eq a b ≡ true = (bytes_eq-Decides a b).1 same in cc
 

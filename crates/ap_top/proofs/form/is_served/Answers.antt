@@ -1,4 +1,3 @@
-use Rattle.ap_top.proofs.Ranges.{form_at}
 use Rattle.ap_top.proofs.Additions.{served}
 use Rattle.ap_top.proofs.form.is_served.Goals as goal
 

@@ -1,5 +1,5 @@
-use Rattle.std.proofs.Common.{◌∙◌, refl, rules}
-use Rattle.ap_net.proofs.Laws.{Makes-trans, laws}
+use Rattle.std.proofs.Common.{◌∙◌, refl}
+use Rattle.ap_net.proofs.Laws.{Makes-trans}
 use Rattle.ap_top.proofs.tests.kinds.sum_or_less.Goals as goal
 
 pub returns-clause-value : goal.returns-clause-value
