@@ -2,7 +2,7 @@
 //! the status that it answers.
 #![tactic(auto)]
 
-ghost use Rattle.std.specs.Prelude.{◌≡◌, ◌<◌, ◌^◌, map, IfOk, vec_len};
+ghost use Rattle.std.specs.Prelude.{◌≡◌, IfOk};
 ghost use Rattle.ap_unit.specs.Shelves.{cards_of};
 ghost use Rattle.ap_comb.specs.Alu.{alu_card};
 ghost use Rattle.ap_comb.specs.Shifts.{shift_card};
@@ -19,60 +19,25 @@ use std::process::ExitCode;
 use std::rt::Env;
 use std::{env, io};
 
-/// A box of the kind `alu`.
-fn boxed_alu(alloc: Global) -> Result<Box<dyn UnitKind>, AllocError>
-    ensures { IfOk result (λ kind. card kind ≡ alu_card) }
-{
-    let kind: Box<dyn UnitKind> = Box::new(alloc, Alu)?;
-    Ok(kind)
-}
-
-/// A box of the kind `shift`.
-fn boxed_shift(alloc: Global) -> Result<Box<dyn UnitKind>, AllocError>
-    ensures { IfOk result (λ kind. card kind ≡ shift_card) }
-{
-    let kind: Box<dyn UnitKind> = Box::new(alloc, Shift)?;
-    Ok(kind)
-}
-
-/// A box of the kind `count`.
-fn boxed_count(alloc: Global) -> Result<Box<dyn UnitKind>, AllocError>
-    ensures { IfOk result (λ kind. card kind ≡ count_card) }
-{
-    let kind: Box<dyn UnitKind> = Box::new(alloc, Count)?;
-    Ok(kind)
-}
-
-/// A box of the kind `avg`.
-fn boxed_avg(alloc: Global) -> Result<Box<dyn UnitKind>, AllocError>
-    ensures { IfOk result (λ kind. card kind ≡ avg_card) }
-{
-    let kind: Box<dyn UnitKind> = Box::new(alloc, Avg)?;
-    Ok(kind)
-}
-
-/// The kinds of units that the program knows.
-fn kinds(alloc: Global) -> Result<Vec<Box<dyn UnitKind>>, AllocError>
-    ensures few { IfOk result (λ kinds. vec_len kinds < 2 ^ 32) }
-    ensures cards { IfOk result (λ kinds. map (λ b. (⟦<dyn UnitKind as UnitKind>⟧ b.vtable).card b.value) kinds.items ≡ program_cards) }
-{
-    let mut kinds: Vec<Box<dyn UnitKind>> = Vec::new(alloc);
-    let alu = boxed_alu(alloc)?;
-    kinds.push(alu)?;
-    let shift = boxed_shift(alloc)?;
-    kinds.push(shift)?;
-    let count = boxed_count(alloc)?;
-    kinds.push(count)?;
-    let avg = boxed_avg(alloc)?;
-    kinds.push(avg)?;
-    Ok(kinds)
-}
-
-/// The shelf of these kinds, whose names differ.
-fn shelf(alloc: Global) -> Result<Shelf, AllocError>
+/// A shelf of the kinds of units that the program knows, whose names differ.
+fn shelf_of(
+    alloc: Global,
+    alu: Box<dyn UnitKind>,
+    shift: Box<dyn UnitKind>,
+    count: Box<dyn UnitKind>,
+    avg: Box<dyn UnitKind>,
+) -> Result<Shelf, AllocError>
+    requires alu { card alu ≡ alu_card }
+    requires shift { card shift ≡ shift_card }
+    requires count { card count ≡ count_card }
+    requires avg { card avg ≡ avg_card }
     ensures { IfOk result (λ shelf. cards_of (λ v x. (⟦<dyn UnitKind as UnitKind>⟧ v).card x) shelf ≡ program_cards) }
 {
-    let kinds = kinds(alloc)?;
+    let mut kinds = Vec::new(alloc);
+    kinds.push(alu)?;
+    kinds.push(shift)?;
+    kinds.push(count)?;
+    kinds.push(avg)?;
     let shelf = Shelf::new(kinds).unwrap();
     Ok(shelf)
 }
@@ -89,9 +54,14 @@ fn words(rt: &(impl Env + AllocGlobal)) -> io::Result<Vec<String>> {
 /// The status of the call; an error where memory ran out before it.
 fn status(rt: &HostRuntime) -> io::Result<u8> {
     let words = words(rt)?;
-    let shelf = shelf(rt.alloc())?;
+    let alloc = rt.alloc();
+    let alu: Box<dyn UnitKind> = Box::new(alloc, Alu)?;
+    let shift: Box<dyn UnitKind> = Box::new(alloc, Shift)?;
+    let count: Box<dyn UnitKind> = Box::new(alloc, Count)?;
+    let avg: Box<dyn UnitKind> = Box::new(alloc, Avg)?;
+    let shelf = shelf_of(alloc, alu, shift, count, avg)?;
     let mut desk = FileDesk::new(rt);
-    Ok(serve(rt.alloc(), &words, &shelf, &mut desk))
+    Ok(serve(alloc, &words, &shelf, &mut desk))
 }
 
 fn main(rt: HostRuntime) -> ExitCode {
