@@ -24,7 +24,7 @@ pub struct Form {
     pub address: u32,
     /// Bits of a code word, from 8 to 64.
     pub word: u32,
-    /// Bits of the register, the adder and the constant, from 1 to 64.
+    /// Bits of the register, the unit and the constant, from 1 to 64.
     pub width: u32,
     /// The register's value at the start, below 2 to the width.
     pub start: u64,

@@ -10,7 +10,7 @@ pub enum Letter {
     Address,
     /// Bits of a code word, from 8 to 64.
     Word,
-    /// Bits of the register, the adder and the constant, from 1 to 64.
+    /// Bits of the register, the unit and the constant, from 1 to 64.
     Width,
     /// The register's value at the start, below 2 to the width.
     Start,
