@@ -7,8 +7,8 @@ use Rattle.ap_desc.specs.DesignOf.{design_of}
 use Rattle.ap_desc.specs.FaultTable.{phase_of}
 use Rattle.ap_desc.specs.Faults.{IsBefore}
 use Rattle.ap_desc.specs.Least.{HoldsNowhere, IsLeast}
-use Rattle.ap_desc.specs.LineFaults.{HasLineFault}
-use Rattle.ap_desc.specs.Meaning.{IsLeastMeaningFault, IsLeastPortFault, IsLeastWordFault, IsMeaningful, MeetsFault, MeetsPortFault, MeetsWordFault}
+use Rattle.ap_desc.specs.StatementFaults.{HasStatementFault}
+use Rattle.ap_desc.specs.Meaning.{IsLeastMeaningFault, IsLeastPortFault, IsLeastWordFault, IsMeaningful, MeetsMeaningFault, MeetsPortFault, MeetsWordFault}
 use Rattle.ap_desc.specs.declared.description.Numbered.{Numbered}
 use Rattle.ap_desc.specs.declared.fault.Fault.{Fault}
 use Rattle.ap_desc.specs.declared.fault.Fault.TheVariants as f
@@ -16,7 +16,7 @@ use Rattle.ap_desc.specs.declared.fault.Refusal.{Refusal}
 
 module _ (statements : List Numbered) (cards : List Card) where
   -- the faults of lines are of the second and third phase
-  line_phase : (kind : Fault) (line : ℕ) → HasLineFault statements cards kind line → phase_of kind < 4
+  line_phase : (kind : Fault) (line : ℕ) → HasStatementFault statements cards kind line → phase_of kind < 4
   line_phase f.Unknown line h = lit< tt
   line_phase f.Twice line h = lit< tt
   line_phase f.NoKind line h = lit< tt
@@ -30,9 +30,9 @@ module _ (statements : List Numbered) (cards : List Card) where
   line_phase f.KindRefuses line h = lit< tt
   line_phase _ line h = absurd (both_ways false refl h.holds)
 
-  pub least_of_lines : (refusal : Refusal) → IsLeast (HasLineFault statements cards) refusal → IsLeastMeaningFault statements cards refusal
-  least_of_lines refusal l = found_from_least (MeetsFault statements cards) refusal (record { phase = l.phase; holds = inl l.holds; least = least }) where
-    least : (kind : Fault) (line : ℕ) → MeetsFault statements cards kind line → IsBefore kind line refusal.kind refusal.line → ⊥
+  pub least_of_lines : (refusal : Refusal) → IsLeast (HasStatementFault statements cards) refusal → IsLeastMeaningFault statements cards refusal
+  least_of_lines refusal l = found_from_least (MeetsMeaningFault statements cards) refusal (record { phase = l.phase; holds = inl l.holds; least = least }) where
+    least : (kind : Fault) (line : ℕ) → MeetsMeaningFault statements cards kind line → IsBefore kind line refusal.kind refusal.line → ⊥
     least kind line (inl h) before = l.least kind line h before
     least kind line (inr h) before =
         let early = line_phase refusal.kind refusal.line l.holds in
@@ -44,9 +44,9 @@ module _ (statements : List Numbered) (cards : List Card) where
   no_later kind line other at (inl below) = omega arith
   no_later kind line other at (inr (same, rest)) = omega arith
 
-  pub least_of_words : (refusal : Refusal) → HoldsNowhere (HasLineFault statements cards) → IsLeastWordFault (design_of statements cards) refusal → IsLeastMeaningFault statements cards refusal
-  least_of_words refusal none found = found_from_least (MeetsFault statements cards) refusal (record { phase = found.phase; holds = inr found.holds.holds.1; least = least }) where
-    least : (kind : Fault) (line : ℕ) → MeetsFault statements cards kind line → IsBefore kind line refusal.kind refusal.line → ⊥
+  pub least_of_words : (refusal : Refusal) → HoldsNowhere (HasStatementFault statements cards) → IsLeastWordFault (design_of statements cards) refusal → IsLeastMeaningFault statements cards refusal
+  least_of_words refusal none found = found_from_least (MeetsMeaningFault statements cards) refusal (record { phase = found.phase; holds = inr found.holds.holds.1; least = least }) where
+    least : (kind : Fault) (line : ℕ) → MeetsMeaningFault statements cards kind line → IsBefore kind line refusal.kind refusal.line → ⊥
     least kind line (inl h) before = none kind line h
     least kind line (inr h) before =
         let late = design_phase (design_of statements cards) kind line h in
@@ -54,10 +54,10 @@ module _ (statements : List Numbered) (cards : List Card) where
         let of_words : phase_of refusal.kind ≡ 4 = found.holds.holds.0 in
         (least_from_found (MeetsWordFault (design_of statements cards)) refusal found).least kind line (omega arith, h) before
 
-  pub least_of_ports : (refusal : Refusal) → HoldsNowhere (HasLineFault statements cards) → HoldsNowhere (MeetsWordFault (design_of statements cards)) → IsLeastPortFault (design_of statements cards) refusal
+  pub least_of_ports : (refusal : Refusal) → HoldsNowhere (HasStatementFault statements cards) → HoldsNowhere (MeetsWordFault (design_of statements cards)) → IsLeastPortFault (design_of statements cards) refusal
       → IsLeastMeaningFault statements cards refusal
-  least_of_ports refusal none no_word found = found_from_least (MeetsFault statements cards) refusal (record { phase = found.phase; holds = inr found.holds.holds.1; least = least }) where
-    least : (kind : Fault) (line : ℕ) → MeetsFault statements cards kind line → IsBefore kind line refusal.kind refusal.line → ⊥
+  least_of_ports refusal none no_word found = found_from_least (MeetsMeaningFault statements cards) refusal (record { phase = found.phase; holds = inr found.holds.holds.1; least = least }) where
+    least : (kind : Fault) (line : ℕ) → MeetsMeaningFault statements cards kind line → IsBefore kind line refusal.kind refusal.line → ⊥
     least kind line (inl h) before = none kind line h
     least kind line (inr h) before =
         let late = design_phase (design_of statements cards) kind line h in
@@ -66,7 +66,7 @@ module _ (statements : List Numbered) (cards : List Card) where
           | inr words ↦ no_word kind line (omega arith, h)
         ]
 
-  pub none_of_all : HoldsNowhere (HasLineFault statements cards) → HoldsNowhere (MeetsWordFault (design_of statements cards)) → HoldsNowhere (MeetsPortFault (design_of statements cards)) → IsMeaningful statements cards
+  pub none_of_all : HoldsNowhere (HasStatementFault statements cards) → HoldsNowhere (MeetsWordFault (design_of statements cards)) → HoldsNowhere (MeetsPortFault (design_of statements cards)) → IsMeaningful statements cards
   none_of_all none no_word no_port kind line (inl h) = none kind line h
   none_of_all none no_word no_port kind line (inr h) =
       let late = design_phase (design_of statements cards) kind line h in

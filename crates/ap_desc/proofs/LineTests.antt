@@ -6,7 +6,7 @@ use Rattle.std.proofs.lemmas.Bool.{and_parts, both_ways, not-true}
 use Rattle.std.proofs.lemmas.List.{append-nil}
 use Rattle.ap_bits.specs.declared.card.Card.{Card}
 use Rattle.ap_desc.proofs.Behind.{contained_passes}
-use Rattle.ap_desc.specs.LineFaults.{HasLineFault, is_faulty}
+use Rattle.ap_desc.specs.StatementFaults.{HasStatementFault, is_faulty}
 use Rattle.ap_desc.specs.Scope.{scope_after}
 use Rattle.ap_desc.specs.declared.description.Numbered.{Numbered}
 use Rattle.ap_desc.specs.declared.fault.Fault.{Fault}
@@ -35,7 +35,7 @@ abbrev pub is_clear : List Card → List Fault → (ℕ → Bool) → List Numbe
 is_clear cards kinds asked before n = not (asked n.line) || list_all (λ kind. not (is_faulty cards (scope_after before cards) n.statement kind)) kinds
 
 pub clear_of : (statements : List Numbered) (cards : List Card) (kinds : List Fault) (asked : ℕ → Bool) → all_after (is_clear cards kinds asked) [] statements ≡ true
-    → (kind : Fault) (line : ℕ) → Contains kinds kind → asked line ≡ true → HasLineFault statements cards kind line → ⊥
+    → (kind : Fault) (line : ℕ) → Contains kinds kind → asked line ≡ true → HasStatementFault statements cards kind line → ⊥
 clear_of statements cards kinds asked e kind line known is_asked h =
     let passes : is_clear cards kinds asked h.before h.n ≡ true = passes_after (is_clear cards kinds asked) [] statements e h.before h.n h.place.after h.place.parts in
     let here : asked h.n.line ≡ true = ap asked h.place.numbered ∙ is_asked in
@@ -51,7 +51,7 @@ width_kinds = f.Range ∷ f.Differs ∷ f.Slice ∷ f.TooWideConstant ∷ f.NotO
 
 -- no fault of names or widths holds
 pub no_line_fault : (statements : List Numbered) (cards : List Card) → all_after (is_clear cards (name_kinds ++ width_kinds) (λ n. true)) [] statements ≡ true
-    → (kind : Fault) (line : ℕ) → HasLineFault statements cards kind line → ⊥
+    → (kind : Fault) (line : ℕ) → HasStatementFault statements cards kind line → ⊥
 no_line_fault statements cards e f.Unknown line h = clear_of statements cards (name_kinds ++ width_kinds) (λ n. true) e f.Unknown line (0, lit< tt, refl) refl h
 no_line_fault statements cards e f.Twice line h = clear_of statements cards (name_kinds ++ width_kinds) (λ n. true) e f.Twice line (1, lit< tt, refl) refl h
 no_line_fault statements cards e f.NoKind line h = clear_of statements cards (name_kinds ++ width_kinds) (λ n. true) e f.NoKind line (2, lit< tt, refl) refl h

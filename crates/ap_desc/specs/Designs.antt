@@ -54,7 +54,7 @@ abbrev pub is_instr_within : ℕ → Instr → Bool
 is_instr_within stages instr = nat_le (length instr.micros) 64 && list_all (λ (m : Micro). nat_lt m.stage stages) instr.micros
 
 -- the design's numbers are within the limits
-pub record IsWithin (design : Design) : Type 0 where
+pub record IsWithinLimits (design : Design) : Type 0 where
   pub stages : IsTrue (is_between 2 8 design.stages)
   pub address : IsTrue (is_between 4 16 design.address)
   pub word : IsTrue (is_between 8 64 design.word)

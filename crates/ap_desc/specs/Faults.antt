@@ -63,21 +63,21 @@ is_missing_some lines =
 
 -- a fault of form holds at the line of this number; line 0 is the text as a whole. Where a line before it says nothing, that
 -- one is faulty, and of the order of this line nothing is said
-abbrev pub HasFormFault : List TextLine → Fault → ℕ → Type 0
-HasFormFault lines f.BadLine number = (before : List TextLine) × (line : TextLine) × StandsAt lines number before line × SaysNothing line
-HasFormFault lines f.BadOrder number = (earlier : List Statement) × (statement : Statement) × SaysAt lines number earlier statement × IsTrue (is_out_of_order earlier statement)
-HasFormFault lines f.TooMany number = (earlier : List Statement) × (statement : Statement) × SaysAt lines number earlier statement × IsTrue (is_one_too_many earlier statement)
-HasFormFault lines f.Missing number = (number ≡ 0) × IsTrue (is_missing_some lines)
-HasFormFault lines _ number = ⊥
+abbrev pub HasFaultAmong : List TextLine → Fault → ℕ → Type 0
+HasFaultAmong lines f.BadLine number = (before : List TextLine) × (line : TextLine) × StandsAt lines number before line × SaysNothing line
+HasFaultAmong lines f.BadOrder number = (earlier : List Statement) × (statement : Statement) × SaysAt lines number earlier statement × IsTrue (is_out_of_order earlier statement)
+HasFaultAmong lines f.TooMany number = (earlier : List Statement) × (statement : Statement) × SaysAt lines number earlier statement × IsTrue (is_one_too_many earlier statement)
+HasFaultAmong lines f.Missing number = (number ≡ 0) × IsTrue (is_missing_some lines)
+HasFaultAmong lines _ number = ⊥
 
 -- a fault holds at the line of this number: a text that is too long has no other
-abbrev pub HasFault : List ℕ → Fault → ℕ → Type 0
-HasFault text f.TooLong number = (number ≡ 0) × (description_limit < length text)
-HasFault text kind number = (length text ≤ description_limit) × HasFormFault (lines_of text) kind number
+abbrev pub HasFormFault : List ℕ → Fault → ℕ → Type 0
+HasFormFault text f.TooLong number = (number ≡ 0) × (description_limit < length text)
+HasFormFault text kind number = (length text ≤ description_limit) × HasFaultAmong (lines_of text) kind number
 
 -- the text has no fault of form
-abbrev pub IsFaultless : List ℕ → Type 0
-IsFaultless text = (kind : Fault) (number : ℕ) → HasFault text kind number → ⊥
+abbrev pub IsWellFormed : List ℕ → Type 0
+IsWellFormed text = (kind : Fault) (number : ℕ) → HasFormFault text kind number → ⊥
 
 -- one fault comes before another: by phase, then by line, then by number
 abbrev pub IsBefore : Fault → ℕ → Fault → ℕ → Type 0
@@ -85,7 +85,7 @@ IsBefore kind line other other_line = (phase_of kind < phase_of other)
     ⊎ ((phase_of kind ≡ phase_of other) × ((line < other_line) ⊎ ((line ≡ other_line) × (number_of kind < number_of other))))
 
 -- the refusal names the least fault of the text
-pub record IsLeastFault (text : List ℕ) (refusal : Refusal) : Type 0 where
+pub record IsLeastFormFault (text : List ℕ) (refusal : Refusal) : Type 0 where
   pub phase : refusal.phase ≡ phase_of refusal.kind
-  pub holds : HasFault text refusal.kind refusal.line
-  pub least : (kind : Fault) (line : ℕ) → HasFault text kind line → IsBefore kind line refusal.kind refusal.line → ⊥
+  pub holds : HasFormFault text refusal.kind refusal.line
+  pub least : (kind : Fault) (line : ℕ) → HasFormFault text kind line → IsBefore kind line refusal.kind refusal.line → ⊥

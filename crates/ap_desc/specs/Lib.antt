@@ -13,7 +13,7 @@ pub mod Groups
 pub mod Instructions
 pub mod Least
 pub mod LineExamples
-pub mod LineFaults
+pub mod StatementFaults
 pub mod Meaning
 pub mod NameFaults
 pub mod Order

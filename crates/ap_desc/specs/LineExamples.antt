@@ -13,7 +13,7 @@ use Rattle.ap_desc.specs.declared.statement.Statement.TheVariants as s
 use Rattle.ap_desc.specs.declared.statement.Word.{Word}
 use Rattle.ap_desc.specs.declared.statement.Word.TheVariants.{Named}
 use Rattle.ap_desc.specs.Examples.{adder_card}
-use Rattle.ap_desc.specs.LineFaults.{is_faulty}
+use Rattle.ap_desc.specs.StatementFaults.{is_faulty}
 use Rattle.ap_desc.specs.Scope.{scope_after}
 
 -- a shelf with a kind of any width that adds, and a kind of widths that are powers of two that shifts

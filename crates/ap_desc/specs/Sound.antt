@@ -9,7 +9,7 @@ use Rattle.ap_desc.specs.declared.design.Format.{Format}
 use Rattle.ap_desc.specs.declared.design.Field.{Field}
 use Rattle.ap_desc.specs.declared.design.Instr.{Instr}
 use Rattle.ap_desc.specs.declared.design.Micro.{Micro}
-use Rattle.ap_desc.specs.Designs.{Matches, IsWithin, names_in, lines_in, is_named_nop, Rise, ArePlaced, IsRight, arg_width}
+use Rattle.ap_desc.specs.Designs.{Matches, IsWithinLimits, names_in, lines_in, is_named_nop, Rise, ArePlaced, IsRight, arg_width}
 use Rattle.ap_desc.specs.Parts.{reg_names, file_names, mem_names, input_names, unit_names, format_names, names_of_fields}
 use Rattle.ap_desc.specs.Reserved.{is_free_name}
 use Rattle.ap_desc.specs.Widths.{has_widths}
@@ -40,7 +40,7 @@ IsTyped design instr = IsSomeAnd (slice_get design.formats instr.format) (λ for
 -- the design is sound: its numbers are within the limits, its names may be used and differ, one instruction is NOP, its lines
 -- stand in the order of a text, all that they name is there, and they have the widths that they need
 pub record IsSound (design : Design) : Type 0 where
-  pub within : IsWithin design
+  pub within : IsWithinLimits design
   pub names : IsTrue (list_all is_free_name (names_in design))
   pub once : IsTrue (are_named_once design)
   pub nop : IsTrue (list_any is_named_nop design.instrs)

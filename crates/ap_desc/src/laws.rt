@@ -6,8 +6,8 @@ ghost use Rattle.ap_desc.specs.Clean.{IsClean};
 ghost use Rattle.ap_desc.specs.Descriptions.{IsDescription};
 ghost use Rattle.ap_desc.specs.DesignOf.{design_of};
 ghost use Rattle.ap_desc.specs.Least.{HoldsNowhere, IsLeast};
-ghost use Rattle.ap_desc.specs.LineFaults.{HasLineFault};
-ghost use Rattle.ap_desc.specs.Meaning.{IsLeastAnyFault, IsLeastMeaningFault, IsLeastPortFault, IsLeastWordFault, IsMeaningful, MeetsAnyFault, MeetsFault, MeetsPortFault, MeetsWordFault};
+ghost use Rattle.ap_desc.specs.StatementFaults.{HasStatementFault};
+ghost use Rattle.ap_desc.specs.Meaning.{IsLeastFault, IsLeastMeaningFault, IsLeastPortFault, IsLeastWordFault, IsMeaningful, MeetsFault, MeetsMeaningFault, MeetsPortFault, MeetsWordFault};
 ghost use Rattle.ap_desc.specs.Reading.{ReadsAs};
 ghost use Rattle.ap_desc.specs.Shown.{renumbered, shown_text};
 ghost use Rattle.ap_desc.specs.Sound.{IsEncoded};
@@ -32,15 +32,15 @@ pub fn reading_is_unique()
 /// A description, a text and a design have one least fault at most.
 pub fn least_fault_is_unique()
     ensures description { (statements : List Numbered) (cards : List Card) (one other : Refusal) → IsLeastMeaningFault statements cards one → IsLeastMeaningFault statements cards other → one ≡ other }
-    ensures text { (text : List ℕ) (cards : List Card) (one other : Refusal) → IsLeastAnyFault text cards one → IsLeastAnyFault text cards other → one ≡ other }
+    ensures text { (text : List ℕ) (cards : List Card) (one other : Refusal) → IsLeastFault text cards one → IsLeastFault text cards other → one ≡ other }
     ensures words { (design : Design) (one other : Refusal) → IsLeastWordFault design one → IsLeastWordFault design other → one ≡ other }
     ensures ports { (design : Design) (one other : Refusal) → IsLeastPortFault design one → IsLeastPortFault design other → one ≡ other }
 {}
 
 /// The least fault among those that are looked at is the least of all whose conditions hold.
 pub fn least_fault_is_looked_at()
-    ensures description { (statements : List Numbered) (cards : List Card) (refusal : Refusal) → IsLeast (MeetsFault statements cards) refusal ↔ IsLeastMeaningFault statements cards refusal }
-    ensures text { (text : List ℕ) (cards : List Card) (refusal : Refusal) → IsLeast (MeetsAnyFault text cards) refusal ↔ IsLeastAnyFault text cards refusal }
+    ensures description { (statements : List Numbered) (cards : List Card) (refusal : Refusal) → IsLeast (MeetsMeaningFault statements cards) refusal ↔ IsLeastMeaningFault statements cards refusal }
+    ensures text { (text : List ℕ) (cards : List Card) (refusal : Refusal) → IsLeast (MeetsFault text cards) refusal ↔ IsLeastFault text cards refusal }
     ensures words { (design : Design) (refusal : Refusal) → IsLeast (MeetsWordFault design) refusal ↔ IsLeastWordFault design refusal }
     ensures ports { (design : Design) (refusal : Refusal) → IsLeast (MeetsPortFault design) refusal ↔ IsLeastPortFault design refusal }
 {}
@@ -48,12 +48,12 @@ pub fn least_fault_is_looked_at()
 /// The least fault of a description is found phase by phase: among its lines; where they have none, among the words of its design; and
 /// where these have none, among ports and stages.
 pub fn least_fault_by_phases()
-    ensures lines { (statements : List Numbered) (cards : List Card) (refusal : Refusal) → IsLeast (HasLineFault statements cards) refusal → IsLeastMeaningFault statements cards refusal }
-    ensures words { (statements : List Numbered) (cards : List Card) (refusal : Refusal) → HoldsNowhere (HasLineFault statements cards)
+    ensures lines { (statements : List Numbered) (cards : List Card) (refusal : Refusal) → IsLeast (HasStatementFault statements cards) refusal → IsLeastMeaningFault statements cards refusal }
+    ensures words { (statements : List Numbered) (cards : List Card) (refusal : Refusal) → HoldsNowhere (HasStatementFault statements cards)
         → IsLeastWordFault (design_of statements cards) refusal → IsLeastMeaningFault statements cards refusal }
-    ensures ports { (statements : List Numbered) (cards : List Card) (refusal : Refusal) → HoldsNowhere (HasLineFault statements cards) → HoldsNowhere (MeetsWordFault (design_of statements cards))
+    ensures ports { (statements : List Numbered) (cards : List Card) (refusal : Refusal) → HoldsNowhere (HasStatementFault statements cards) → HoldsNowhere (MeetsWordFault (design_of statements cards))
         → IsLeastPortFault (design_of statements cards) refusal → IsLeastMeaningFault statements cards refusal }
-    ensures none { (statements : List Numbered) (cards : List Card) → HoldsNowhere (HasLineFault statements cards) → HoldsNowhere (MeetsWordFault (design_of statements cards))
+    ensures none { (statements : List Numbered) (cards : List Card) → HoldsNowhere (HasStatementFault statements cards) → HoldsNowhere (MeetsWordFault (design_of statements cards))
         → HoldsNowhere (MeetsPortFault (design_of statements cards)) → IsMeaningful statements cards }
 {}
 

@@ -3,7 +3,7 @@ ghost use Rattle.std.specs.Prelude.{◌≡◌, [], ◌∷◌, ◌++◌, map, cod
 ghost use Rattle.ap_text.specs.Lines.{lines_of, text_line, tokens_of};
 ghost use Rattle.ap_desc.specs.Descriptions.{IsDescription};
 ghost use Rattle.ap_desc.specs.Designs.{Matches, field_value};
-ghost use Rattle.ap_desc.specs.Faults.{HasFault, IsBefore, SaysNothing, is_missing_some};
+ghost use Rattle.ap_desc.specs.Faults.{HasFormFault, IsBefore, SaysNothing, is_missing_some};
 ghost use Rattle.ap_desc.specs.Shelf.{IsOfCards};
 ghost use Rattle.ap_desc.specs.Sound.{IsEncoded, IsSound};
 ghost use Rattle.ap_desc.specs.Reading.{ReadsAs};
@@ -60,14 +60,14 @@ fn locals()
 /// Faults of form on small texts. A text that lacks something has that fault at line 0, whatever else it has.
 #[tactic(auto, unfolding(ap_text::specs::Lines::lines_of))]
 fn faults_of_form()
-    ensures stray_end { HasFault (codes "stages 2\nend\n") Fault.BadOrder 2 }
-    ensures second_header { HasFault (codes "stages 2\n\nstages 0x2\n") Fault.BadOrder 3 }
-    ensures no_number { HasFault (codes "stages two\n") Fault.BadLine 1 }
-    ensures too_many { HasFault (codes "mem A 1 1\nmem B 1 1\nmem C 1 1\nmem D 1 1\nmem E 1 1") Fault.TooMany 5 }
-    ensures no_transfer { HasFault (codes "stages 2\naddress 4\nword 8\nformat R op:8\ninstr NOP R op=0\nend\n") Fault.Missing 0 }
-    ensures other_name { HasFault (codes "stages 2\naddress 4\nword 8\ntransfer 1 0\nformat R op:8\ninstr NOPE R op=0\nend\n") Fault.Missing 0 }
-    ensures carriage_return { HasFault (codes "stages 2\naddress 4\nword 8\ntransfer 1 0\nformat R op:8\ninstr NOP R op=0\nend\r\n") Fault.Missing 0 }
-    ensures more_than_end { HasFault (codes "stages 2\naddress 4\nword 8\ntransfer 1 0\nformat R op:8\ninstr NOP R op=0\nend end\n") Fault.Missing 0 }
+    ensures stray_end { HasFormFault (codes "stages 2\nend\n") Fault.BadOrder 2 }
+    ensures second_header { HasFormFault (codes "stages 2\n\nstages 0x2\n") Fault.BadOrder 3 }
+    ensures no_number { HasFormFault (codes "stages two\n") Fault.BadLine 1 }
+    ensures too_many { HasFormFault (codes "mem A 1 1\nmem B 1 1\nmem C 1 1\nmem D 1 1\nmem E 1 1") Fault.TooMany 5 }
+    ensures no_transfer { HasFormFault (codes "stages 2\naddress 4\nword 8\nformat R op:8\ninstr NOP R op=0\nend\n") Fault.Missing 0 }
+    ensures other_name { HasFormFault (codes "stages 2\naddress 4\nword 8\ntransfer 1 0\nformat R op:8\ninstr NOPE R op=0\nend\n") Fault.Missing 0 }
+    ensures carriage_return { HasFormFault (codes "stages 2\naddress 4\nword 8\ntransfer 1 0\nformat R op:8\ninstr NOP R op=0\nend\r\n") Fault.Missing 0 }
+    ensures more_than_end { HasFormFault (codes "stages 2\naddress 4\nword 8\ntransfer 1 0\nformat R op:8\ninstr NOP R op=0\nend end\n") Fault.Missing 0 }
     ensures none_missing { is_missing_some (lines_of (codes "stages 2\naddress 4\nword 8\ntransfer 1 0\nformat R op:8\ninstr NOP R op=0\nend\n")) ≡ false }
 {}
 

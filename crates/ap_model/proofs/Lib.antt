@@ -1,5 +1,5 @@
 pub mod CountedLaws
-pub mod DoneLemmas
+pub mod EffectLemmas
 pub mod MachineFits
 pub mod PlainWidths
 pub mod PortLists

@@ -21,12 +21,12 @@ use Rattle.ap_model.specs.declared.storage.PortWrite.{PortWrite}
 use Rattle.ap_model.specs.declared.storage.Storages.{Storages}
 use Rattle.ap_model.specs.declared.storage.WritePort.{WritePort}
 use Rattle.ap_model.specs.declared.storage.WritePort.TheVariants as port
-use Rattle.ap_model.specs.Cycles.{Course, fetched, flight_at, unkilled_numbers, inputs_at, is_killed, unkilled_number, from_last}
+use Rattle.ap_model.specs.Cycles.{CycleControl, fetched, flight_at, unkilled_numbers, inputs_at, is_killed, unkilled_number, from_last}
 use Rattle.ap_model.specs.DesignShape.{shape_of}
 use Rattle.ap_model.specs.Fitting.{FlightFits, FlightsFit, PortsFit, StoragesFit, WordStands, WritesFit, CountsWithin, StateFits, assigned_by, lines_before, port_width}
 use Rattle.ap_model.specs.States.{start_storages}
 use Rattle.ap_model.specs.Stored.{with_value, with_word, with_write, with_writes}
-use Rattle.ap_model.proofs.DoneLemmas.{each_append}
+use Rattle.ap_model.proofs.EffectLemmas.{each_append}
 use Rattle.ap_model.proofs.StageLemmas.{none_at_first, word_is_good}
 
 -- Storages after writes.
@@ -185,12 +185,12 @@ transfer_fits design cards state flight fits stands at =
 
 -- The numbers.
 
-numbers_within : (design : Design) (course : Course) (limit stage : ℕ) (flights : List (Option Flight)) → Each (λ (o : Option Flight). IfSome o (λ (f : Flight). f.number ≤ limit)) flights
-    → Each (λ n. n ≤ limit) (from_last (unkilled_number design course) stage flights)
-numbers_within design course limit stage [] each = tt
-numbers_within design course limit stage (None ∷ flights) each = each_append (λ n. n ≤ limit) (from_last (unkilled_number design course) (stage + 1) flights) [] (numbers_within design course limit (stage + 1) flights each.1) tt
-numbers_within design course limit stage (Some f ∷ flights) each =
-    each_append (λ n. n ≤ limit) (from_last (unkilled_number design course) (stage + 1) flights) (unkilled_number design course stage f) (numbers_within design course limit (stage + 1) flights each.1) (go (is_killed design course stage))
+numbers_within : (design : Design) (control : CycleControl) (limit stage : ℕ) (flights : List (Option Flight)) → Each (λ (o : Option Flight). IfSome o (λ (f : Flight). f.number ≤ limit)) flights
+    → Each (λ n. n ≤ limit) (from_last (unkilled_number design control) stage flights)
+numbers_within design control limit stage [] each = tt
+numbers_within design control limit stage (None ∷ flights) each = each_append (λ n. n ≤ limit) (from_last (unkilled_number design control) (stage + 1) flights) [] (numbers_within design control limit (stage + 1) flights each.1) tt
+numbers_within design control limit stage (Some f ∷ flights) each =
+    each_append (λ n. n ≤ limit) (from_last (unkilled_number design control) (stage + 1) flights) (unkilled_number design control stage f) (numbers_within design control limit (stage + 1) flights each.1) (go (is_killed design control stage))
   where
     go : (b : Bool) → Each (λ n. n ≤ limit) (if b then [] else f.number ∷ [])
     go true = tt
@@ -200,10 +200,10 @@ fold_within : (limit : ℕ) (first : ℕ) (numbers : List ℕ) → first ≤ lim
 fold_within limit first [] h each = h
 fold_within limit first (n ∷ numbers) h each = fold_within limit (max first n) numbers (omega (arith, h, each.0)) each.1
 
-pub greatest_within : (limit : ℕ) (design : Design) (state : State) (course : Course) → CountsWithin limit state → fold max 0 (unkilled_numbers design state course) ≤ limit
-greatest_within limit design state course counts =
-    fold_within limit 0 (unkilled_numbers design state course) (omega arith)
-    (each_append (λ n. n ≤ limit) (from_last (unkilled_number design course) 1 state.flights) (if course.held 0 || is_killed design course 0 then [] else state.next ∷ []) (numbers_within design course limit 1 state.flights counts.numbers) (go (course.held 0 || is_killed design course 0)))
+pub greatest_within : (limit : ℕ) (design : Design) (state : State) (control : CycleControl) → CountsWithin limit state → fold max 0 (unkilled_numbers design state control) ≤ limit
+greatest_within limit design state control counts =
+    fold_within limit 0 (unkilled_numbers design state control) (omega arith)
+    (each_append (λ n. n ≤ limit) (from_last (unkilled_number design control) 1 state.flights) (if control.held 0 || is_killed design control 0 then [] else state.next ∷ []) (numbers_within design control limit 1 state.flights counts.numbers) (go (control.held 0 || is_killed design control 0)))
   where
     go : (b : Bool) → Each (λ n. n ≤ limit) (if b then [] else state.next ∷ [])
     go true = tt

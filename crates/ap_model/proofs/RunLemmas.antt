@@ -11,8 +11,8 @@ use Rattle.ap_desc.specs.declared.design.Design.{Design}
 use Rattle.ap_desc.specs.declared.design.File.{File}
 use Rattle.ap_model.specs.Ports.{file_groups, file_ports, is_used, is_used_in, mem_ports, reg_ports, row_ports, stages_from_last, write_groups}
 use Rattle.ap_model.specs.declared.storage.WritePort.TheVariants as port
-use Rattle.ap_model.specs.Cycles.{Course, cycle_entries}
-use Rattle.ap_model.specs.ShownRows.{course_row, group_writes}
+use Rattle.ap_model.specs.Cycles.{CycleControl, cycle_entries}
+use Rattle.ap_model.specs.ShownRows.{control_row, group_writes}
 use Rattle.ap_model.specs.declared.row.Row.{Row}
 use Rattle.ap_model.specs.declared.row.Write.{Write}
 use Rattle.ap_model.specs.declared.state.Entry.{Entry}
@@ -113,11 +113,11 @@ row_ports_few design cards fits =
     omega (arith, regs, files, mems, of_files, count_files, of_regs, count_regs, count_mems, groups, both)
 
 -- a row, part by part
-pub course_row_is : (design : Design) (cards : List Card) (inputs : TraceLine) (state : State) (course : Course) (stall kill : Bool) (shown : List Write) (ports : List WritePort) (writes : List PortWrite) (entries : List Entry)
-    → stall ≡ course.held 0 → kill ≡ is_some course.taken → ports ≡ row_ports design → entries ≡ cycle_entries design cards inputs state course → writes ≡ map (λ (e : Entry). e.write) entries
+pub control_row_is : (design : Design) (cards : List Card) (inputs : TraceLine) (state : State) (control : CycleControl) (stall kill : Bool) (shown : List Write) (ports : List WritePort) (writes : List PortWrite) (entries : List Entry)
+    → stall ≡ control.held 0 → kill ≡ is_some control.taken → ports ≡ row_ports design → entries ≡ cycle_entries design cards inputs state control → writes ≡ map (λ (e : Entry). e.write) entries
     → shown ≡ [] ++ group_writes 0 ports writes
-    → ◌≡◌ {A = Row} (record { stall = stall; kill = kill; writes = shown }) (course_row design cards inputs state course)
-unfolding course_row
-course_row_is design cards inputs state course stall kill shown ports writes entries is_stall is_kill is_ports is_entries is_writes is_shown =
+    → ◌≡◌ {A = Row} (record { stall = stall; kill = kill; writes = shown }) (control_row design cards inputs state control)
+unfolding control_row
+control_row_is design cards inputs state control stall kill shown ports writes entries is_stall is_kill is_ports is_entries is_writes is_shown =
     let all = is_shown ∙ ap (λ ps. group_writes 0 ps writes) is_ports ∙ ap (group_writes 0 (row_ports design)) (is_writes ∙ ap (map (λ (e : Entry). e.write)) is_entries) in
     λ i. record { stall = is_stall i; kill = is_kill i; writes = all i }

@@ -11,13 +11,13 @@ use Rattle.ap_image.specs.declared.trace.Trace.{Trace}
 use Rattle.ap_image.specs.declared.trace.TraceLine.{TraceLine}
 use Rattle.ap_model.specs.declared.plain.scene.Scene.{Scene}
 use Rattle.ap_model.specs.declared.row.Row.{Row}
-use Rattle.ap_model.specs.declared.state.Done.{Done}
+use Rattle.ap_model.specs.declared.state.StageEffect.{StageEffect}
 use Rattle.ap_model.specs.declared.state.Flight.{Flight}
 use Rattle.ap_model.specs.declared.state.State.{State}
-use Rattle.ap_model.specs.Cycles.{Course, after_course, course_of, cycle, cycle_flights, done_in, entering, fetched, flights_from, gone_on, inputs_at, is_killed, leaving, next_number, next_pc, over, staying, taken_transfer, unkilled_numbers}
+use Rattle.ap_model.specs.Cycles.{CycleControl, after_control, control_of, cycle, cycle_flights, effect_in, entering, fetched, flights_from, gone_on, inputs_at, is_killed, leaving, next_number, next_pc, over, staying, taken_transfer, unkilled_numbers}
 use Rattle.ap_model.specs.DesignShape.{shape_of}
 use Rattle.ap_model.specs.Fitting.{CountsWithin, FlightFits, FlightsFit, StateFits, StoragesFit, WaitsWithin}
-use Rattle.ap_model.specs.Scenes.{course_of_scene}
+use Rattle.ap_model.specs.Scenes.{control_of_scene}
 use Rattle.ap_model.specs.ShownRows.{cycle_row, row, rows_of}
 use Rattle.ap_model.specs.Stalls.{busy_from, is_held_stage}
 use Rattle.ap_model.specs.States.{start}
@@ -25,42 +25,42 @@ use Rattle.ap_model.proofs.MachineFits.{empty_fits, fetched_fits, greatest_withi
 use Rattle.ap_model.proofs.RunLemmas.{rows_more}
 
 -- the program goes by what decides on the cycle
-pub course_same : (scene : Scene) → scene.busy.now ≡ busy_from scene.design.now scene.inputs.now.wait 1 scene.state.now.flights → scene.taken ≡ taken_transfer scene.design.now scene.cards.now scene.inputs.now scene.state.now
-    → course_of_scene scene ≡ course_of scene.design.now scene.cards.now scene.inputs.now scene.state.now
-unfolding course_of
-course_same scene busy taken = λ i. record { held = is_held_stage scene.design.now (busy i); taken = taken i }
+pub control_same : (scene : Scene) → scene.busy.now ≡ busy_from scene.design.now scene.inputs.now.wait 1 scene.state.now.flights → scene.taken ≡ taken_transfer scene.design.now scene.cards.now scene.inputs.now scene.state.now
+    → control_of_scene scene ≡ control_of scene.design.now scene.cards.now scene.inputs.now scene.state.now
+unfolding control_of
+control_same scene busy taken = λ i. record { held = is_held_stage scene.design.now (busy i); taken = taken i }
 
 -- the pc stays an address
-pub next_pc_fits : (design : Design) (state : State) (course : Course) → state.pc < 2 ^ design.address → IfSome course.taken (λ t. t < 2 ^ design.address) → next_pc design state course < 2 ^ design.address
-next_pc_fits design state course pc taken = go (course.held 0) course.taken taken
+pub next_pc_fits : (design : Design) (state : State) (control : CycleControl) → state.pc < 2 ^ design.address → IfSome control.taken (λ t. t < 2 ^ design.address) → next_pc design state control < 2 ^ design.address
+next_pc_fits design state control pc taken = go (control.held 0) control.taken taken
   where
     go : (b : Bool) (o : Option ℕ) → IfSome o (λ t. t < 2 ^ design.address) → (if b then state.pc else unwrap_or o ((state.pc + 1) % 2 ^ design.address)) < 2 ^ design.address
     go true o h = pc
     go false None h = mod-lt (state.pc + 1) (pow_pos design.address)
     go false (Some t) h = h
 
-pub entering_fits : (design : Design) (cards : List Card) (image : Image) (state : State) (course : Course) → IsRunnable design cards → ImageFitsShape image (shape_of design) → state.pc < 2 ^ design.address
-    → IfSome (entering design image state course) (FlightFits design 1)
-entering_fits design cards image state course fits shaped pc = go (course.held 0 || is_killed design course 0)
+pub entering_fits : (design : Design) (cards : List Card) (image : Image) (state : State) (control : CycleControl) → IsRunnable design cards → ImageFitsShape image (shape_of design) → state.pc < 2 ^ design.address
+    → IfSome (entering design image state control) (FlightFits design 1)
+entering_fits design cards image state control fits shaped pc = go (control.held 0 || is_killed design control 0)
   where
     go : (b : Bool) → IfSome (if b then None else Some (fetched image state)) (FlightFits design 1)
     go true = tt
     go false = fetched_fits design cards image state fits shaped pc
 
-flights_length : (design : Design) (cards : List Card) (inputs : TraceLine) (state : State) (course : Course) (stage : ℕ) (coming : Option Flight) (flights : List (Option Flight))
-    → length (flights_from design cards inputs state course stage coming flights) ≡ length flights
-flights_length design cards inputs state course stage coming [] = refl
-flights_length design cards inputs state course stage coming (flight ∷ flights) = ap suc (flights_length design cards inputs state course (stage + 1) (leaving design cards inputs state course stage flight) flights)
+flights_length : (design : Design) (cards : List Card) (inputs : TraceLine) (state : State) (control : CycleControl) (stage : ℕ) (coming : Option Flight) (flights : List (Option Flight))
+    → length (flights_from design cards inputs state control stage coming flights) ≡ length flights
+flights_length design cards inputs state control stage coming [] = refl
+flights_length design cards inputs state control stage coming (flight ∷ flights) = ap suc (flights_length design cards inputs state control (stage + 1) (leaving design cards inputs state control stage flight) flights)
 
 -- the state after a cycle fits, where its flights and storages do
-pub after_fits : (design : Design) (cards : List Card) (image : Image) (inputs : TraceLine) (state next : State) (course : Course) → StateFits design state → IfSome course.taken (λ t. t < 2 ^ design.address)
-    → next ≡ after_course design cards image inputs state course → FlightsFit design 1 next.flights → StoragesFit design next.storages → StateFits design next
-unfolding after_course cycle_flights
-after_fits design cards image inputs state next course fits taken same flights storages = record {
-  pc = subst (λ n. n < 2 ^ design.address) (sym (ap (λ (s : State). s.pc) same)) (next_pc_fits design state course fits.pc taken);
+pub after_fits : (design : Design) (cards : List Card) (image : Image) (inputs : TraceLine) (state next : State) (control : CycleControl) → StateFits design state → IfSome control.taken (λ t. t < 2 ^ design.address)
+    → next ≡ after_control design cards image inputs state control → FlightsFit design 1 next.flights → StoragesFit design next.storages → StateFits design next
+unfolding after_control cycle_flights
+after_fits design cards image inputs state next control fits taken same flights storages = record {
+  pc = subst (λ n. n < 2 ^ design.address) (sym (ap (λ (s : State). s.pc) same)) (next_pc_fits design state control fits.pc taken);
   storages = storages;
   flights = flights;
-  count = ap (λ (s : State). length s.flights) same ∙ flights_length design cards inputs state course 1 (entering design image state course) state.flights ∙ fits.count;
+  count = ap (λ (s : State). length s.flights) same ∙ flights_length design cards inputs state control 1 (entering design image state control) state.flights ∙ fits.count;
 }
 
 -- a design has few stages
@@ -90,52 +90,52 @@ pub waits_within : (state : State) → CountsWithin (2 ^ 62) state → WaitsWith
 waits_within state counts = waits_grow (2 ^ 62 + 1) (2 ^ 63) state.flights (omega arith) counts.waits
 
 -- what holds of each flight after a cycle
-each_flight : (P Q : Flight → Type 0) (design : Design) (cards : List Card) (inputs : TraceLine) (state : State) (course : Course) → ((f : Flight) → P f → Q (staying f)) → ((f : Flight) (d : Done) → P f → Q (gone_on f d))
-    → (stage : ℕ) (coming : Option Flight) (flights : List (Option Flight)) → IfSome coming Q → Each (λ o. IfSome o P) flights → Each (λ o. IfSome o Q) (flights_from design cards inputs state course stage coming flights)
-each_flight P Q design cards inputs state course stays goes stage coming [] more each = tt
-each_flight P Q design cards inputs state course stays goes stage coming (None ∷ flights) more each =
-    (go (course.held stage), each_flight P Q design cards inputs state course stays goes (stage + 1) None flights tt each.1)
+each_flight : (P Q : Flight → Type 0) (design : Design) (cards : List Card) (inputs : TraceLine) (state : State) (control : CycleControl) → ((f : Flight) → P f → Q (staying f)) → ((f : Flight) (d : StageEffect) → P f → Q (gone_on f d))
+    → (stage : ℕ) (coming : Option Flight) (flights : List (Option Flight)) → IfSome coming Q → Each (λ o. IfSome o P) flights → Each (λ o. IfSome o Q) (flights_from design cards inputs state control stage coming flights)
+each_flight P Q design cards inputs state control stays goes stage coming [] more each = tt
+each_flight P Q design cards inputs state control stays goes stage coming (None ∷ flights) more each =
+    (go (control.held stage), each_flight P Q design cards inputs state control stays goes (stage + 1) None flights tt each.1)
   where
     go : (b : Bool) → IfSome (if b then None else coming) Q
     go true = tt
     go false = more
-each_flight P Q design cards inputs state course stays goes stage coming (Some f ∷ flights) more each =
-    (go (course.held stage), each_flight P Q design cards inputs state course stays goes (stage + 1) (leaving design cards inputs state course stage (Some f)) flights (left (done_in design cards inputs state course stage f)) each.1)
+each_flight P Q design cards inputs state control stays goes stage coming (Some f ∷ flights) more each =
+    (go (control.held stage), each_flight P Q design cards inputs state control stays goes (stage + 1) (leaving design cards inputs state control stage (Some f)) flights (left (effect_in design cards inputs state control stage f)) each.1)
   where
     go : (b : Bool) → IfSome (if b then Some (staying f) else coming) Q
     go true = stays f each.0
     go false = more
 
-    left : (o : Option Done) → IfSome (option_map (gone_on f) o) Q
+    left : (o : Option StageEffect) → IfSome (option_map (gone_on f) o) Q
     left None = tt
     left (Some d) = goes f d each.0
 
-entering_counts : (Q : Flight → Type 0) (design : Design) (image : Image) (state : State) (course : Course) → Q (fetched image state) → IfSome (entering design image state course) Q
-entering_counts Q design image state course here = go (course.held 0 || is_killed design course 0)
+entering_counts : (Q : Flight → Type 0) (design : Design) (image : Image) (state : State) (control : CycleControl) → Q (fetched image state) → IfSome (entering design image state control) Q
+entering_counts Q design image state control here = go (control.held 0 || is_killed design control 0)
   where
     go : (b : Bool) → IfSome (if b then None else Some (fetched image state)) Q
     go true = tt
     go false = here
 
-next_within : (design : Design) (state : State) (course : Course) (limit : ℕ) → CountsWithin limit state → next_number design state course ≤ limit + 1
-next_within design state course limit counts = go (is_some course.taken) (course.held 0)
+next_within : (design : Design) (state : State) (control : CycleControl) (limit : ℕ) → CountsWithin limit state → next_number design state control ≤ limit + 1
+next_within design state control limit counts = go (is_some control.taken) (control.held 0)
   where
-    go : (b h : Bool) → (if b then fold max 0 (unkilled_numbers design state course) + 1 else if h then state.next else state.next + 1) ≤ limit + 1
-    go true h = let most = greatest_within limit design state course counts in omega (arith, most)
+    go : (b h : Bool) → (if b then fold max 0 (unkilled_numbers design state control) + 1 else if h then state.next else state.next + 1) ≤ limit + 1
+    go true h = let most = greatest_within limit design state control counts in omega (arith, most)
     go false true = omega (arith, counts.next)
     go false false = omega (arith, counts.next)
 
 -- in a cycle the counts grow by one at most
 pub counts_next : (design : Design) (cards : List Card) (image : Image) (inputs : TraceLine) (state : State) (limit : ℕ) → CountsWithin limit state → CountsWithin (limit + 1) (cycle design cards image inputs state)
-unfolding cycle after_course cycle_flights
+unfolding cycle after_control cycle_flights
 counts_next design cards image inputs state limit counts =
-    let course = course_of design cards inputs state in
+    let control = control_of design cards inputs state in
     record {
-      numbers = each_flight (λ f. f.number ≤ limit) (λ f. f.number ≤ limit + 1) design cards inputs state course (λ f h. omega (arith, h)) (λ f d h. omega (arith, h)) 1 (entering design image state course) state.flights
-          (entering_counts (λ f. f.number ≤ limit + 1) design image state course (omega (arith, counts.next))) counts.numbers;
-      waits = each_flight (λ f. f.waited < limit + 1) (λ f. f.waited < limit + 1 + 1) design cards inputs state course (λ f h. omega (arith, h)) (λ f d h. omega arith) 1 (entering design image state course) state.flights
-          (entering_counts (λ f. f.waited < limit + 1 + 1) design image state course (omega arith)) counts.waits;
-      next = next_within design state course limit counts;
+      numbers = each_flight (λ f. f.number ≤ limit) (λ f. f.number ≤ limit + 1) design cards inputs state control (λ f h. omega (arith, h)) (λ f d h. omega (arith, h)) 1 (entering design image state control) state.flights
+          (entering_counts (λ f. f.number ≤ limit + 1) design image state control (omega (arith, counts.next))) counts.numbers;
+      waits = each_flight (λ f. f.waited < limit + 1) (λ f. f.waited < limit + 1 + 1) design cards inputs state control (λ f h. omega (arith, h)) (λ f d h. omega arith) 1 (entering design image state control) state.flights
+          (entering_counts (λ f. f.waited < limit + 1 + 1) design image state control (omega arith)) counts.waits;
+      next = next_within design state control limit counts;
     }
 
 -- The start.

@@ -18,13 +18,13 @@ use Rattle.ap_desc.specs.declared.design.Arg.{Arg}
 use Rattle.ap_desc.specs.declared.design.Arg.TheVariants as arg
 use Rattle.ap_desc.specs.declared.design.Act.{Act}
 use Rattle.ap_desc.specs.declared.design.Act.TheVariants as act
-use Rattle.ap_model.specs.declared.state.Done.{Done}
+use Rattle.ap_model.specs.declared.state.StageEffect.{StageEffect}
 use Rattle.ap_model.specs.declared.state.InputRead.{InputRead}
 use Rattle.ap_model.specs.declared.storage.PortWrite.{PortWrite}
 use Rattle.ap_model.specs.declared.storage.Storages.{Storages}
 use Rattle.ap_model.specs.declared.storage.WritePort.TheVariants as port
 use Rattle.ap_model.specs.Ports.{is_same_port, write_ports}
-use Rattle.ap_model.specs.Stored.{reg_value, cell_value, word_value}
+use Rattle.ap_model.specs.Stored.{reg_value, file_cell_value, word_value}
 
 -- the word matches the instruction
 abbrev pub is_match : ℕ → Instr → Bool
@@ -80,7 +80,7 @@ unit_value design cards unit op a b =
 -- what a line assigns to the next local, if it assigns one; value gives the value of each operand
 abbrev pub act_value : Sight → (Arg → ℕ) → ℕ → Act → Option ℕ
 act_value sight value line (act.Compute unit op a b) = Some (unit_value sight.design sight.cards unit op (value a) (value b))
-act_value sight value line (act.ReadFile file number index) = Some (cell_value sight.storages file (value index))
+act_value sight value line (act.ReadFile file number index) = Some (file_cell_value sight.storages file (value index))
 act_value sight value line (act.ReadReg reg) = Some (reg_value sight.storages reg)
 act_value sight value line (act.ReadMem mem at) = Some (word_value sight.storages mem (value at))
 act_value sight value line (act.ReadIn input) = Some (sight.input line input)
@@ -129,8 +129,8 @@ ordered design writes = flat_map (λ port. filter (λ (w : PortWrite). is_same_p
 
 -- what these lines do: the locals after them, what their input reads take, the target of the transfer, and the writes. A local is
 -- assigned once, so its value after the lines is the one that each line sees
-abbrev pub lines_done : Sight → List ℕ → List Micro → Done
-lines_done sight locals micros =
+abbrev pub lines_effect : Sight → List ℕ → List Micro → StageEffect
+lines_effect sight locals micros =
     let after = locals_after sight locals micros in
     let value = arg_value sight after in
     record {
@@ -141,12 +141,12 @@ lines_done sight locals micros =
     }
 
 -- what the instruction of a word does; nothing where the word matches none
-abbrev pub instr_done : Design → List Card → ℕ → ℕ → ℕ → List ℕ → Storages → (ℕ → ℕ → ℕ) → Option Instr → Done
-instr_done design cards stage place word locals storages input None = record { locals = locals; reads = []; target = None; writes = [] }
-instr_done design cards stage place word locals storages input (Some instr) =
-    lines_done (record { design = design; cards = cards; instr = instr; word = word; place = place; storages = storages; input = input }) locals (lines_in stage instr)
+abbrev pub instr_effect : Design → List Card → ℕ → ℕ → ℕ → List ℕ → Storages → (ℕ → ℕ → ℕ) → Option Instr → StageEffect
+instr_effect design cards stage place word locals storages input None = record { locals = locals; reads = []; target = None; writes = [] }
+instr_effect design cards stage place word locals storages input (Some instr) =
+    lines_effect (record { design = design; cards = cards; instr = instr; word = word; place = place; storages = storages; input = input }) locals (lines_in stage instr)
 
 -- what a stage does with the word of a place, whose instruction has these locals, on these storages. An input read takes what
 -- input gives for its line and its port
-unfoldable pub fire : Design → List Card → ℕ → ℕ → ℕ → List ℕ → Storages → (ℕ → ℕ → ℕ) → Done
-fire design cards stage place word locals storages input = instr_done design cards stage place word locals storages input (instr_of design word)
+unfoldable pub fire : Design → List Card → ℕ → ℕ → ℕ → List ℕ → Storages → (ℕ → ℕ → ℕ) → StageEffect
+fire design cards stage place word locals storages input = instr_effect design cards stage place word locals storages input (instr_of design word)

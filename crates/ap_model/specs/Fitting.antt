@@ -10,7 +10,7 @@ use Rattle.ap_desc.specs.declared.design.InPort.{InPort}
 use Rattle.ap_desc.specs.declared.design.Act.{Act}
 use Rattle.ap_desc.specs.declared.design.Instr.{Instr}
 use Rattle.ap_desc.specs.declared.design.Micro.{Micro}
-use Rattle.ap_model.specs.declared.state.Done.{Done}
+use Rattle.ap_model.specs.declared.state.StageEffect.{StageEffect}
 use Rattle.ap_model.specs.declared.state.Entry.{Entry}
 use Rattle.ap_model.specs.declared.state.Flight.{Flight}
 use Rattle.ap_model.specs.declared.state.State.{State}
@@ -19,7 +19,7 @@ use Rattle.ap_model.specs.declared.storage.WritePort.{WritePort}
 use Rattle.ap_model.specs.declared.storage.WritePort.TheVariants as port
 use Rattle.ap_model.specs.declared.storage.Storages.{Storages}
 use Rattle.ap_model.specs.Fire.{Sight, act_value, arg_value, fields_of, instr_of}
-use Rattle.ap_model.specs.Stored.{reg_value, cell_value, word_value}
+use Rattle.ap_model.specs.Stored.{reg_value, file_cell_value, word_value}
 
 -- each local fits its width, and one that isn't there yet is 0
 abbrev pub LocalsFit : List ℕ → List ℕ → Type 0
@@ -28,7 +28,7 @@ LocalsFit widths locals = (i : ℕ) → slice_index locals i < 2 ^ width_at (λ 
 -- registers, cells and words fit their widths
 pub record StoragesFit (design : Design) (storages : Storages) : Type 0 where
   pub regs : (reg : ℕ) → reg_value storages reg < 2 ^ reg_width design reg
-  pub cells : (file index : ℕ) → cell_value storages file index < 2 ^ file_width design file
+  pub cells : (file index : ℕ) → file_cell_value storages file index < 2 ^ file_width design file
   pub words : (mem address : ℕ) → word_value storages mem address < 2 ^ mem_width design mem
 
 -- the width of an input port
@@ -92,10 +92,10 @@ abbrev pub EntriesFit : Design → List Entry → Type 0
 EntriesFit design entries = Each (λ (e : Entry). e.write.value < 2 ^ port_width design e.write.port) entries
 
 -- what a word's instruction did in a stage: its locals stand for the next stage, its target is an address, and its writes fit
-pub record DoneFits (design : Design) (word stage : ℕ) (done : Done) : Type 0 where
-  pub locals : WordStands design word (stage + 1) done.locals
-  pub target : IfSome done.target (λ t. t < 2 ^ design.address)
-  pub writes : WritesFit design done.writes
+pub record EffectFits (design : Design) (word stage : ℕ) (effect : StageEffect) : Type 0 where
+  pub locals : WordStands design word (stage + 1) effect.locals
+  pub target : IfSome effect.target (λ t. t < 2 ^ design.address)
+  pub writes : WritesFit design effect.writes
 
 -- a flight in a stage: its word and its place fit, and its locals stand
 pub record FlightFits (design : Design) (stage : ℕ) (flight : Flight) : Type 0 where

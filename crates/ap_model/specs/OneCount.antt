@@ -10,8 +10,8 @@ use Rattle.ap_image.specs.declared.trace.TraceLine.{TraceLine}
 use Rattle.ap_model.specs.declared.row.Row.{Row}
 use Rattle.ap_model.specs.declared.state.Flight.{Flight}
 use Rattle.ap_model.specs.declared.state.State.{State}
-use Rattle.ap_model.specs.Cycles.{Course, after_course, flight_at, flight_done, inputs_at, over}
-use Rattle.ap_model.specs.ShownRows.{course_row, row}
+use Rattle.ap_model.specs.Cycles.{CycleControl, after_control, flight_at, flight_effect, inputs_at, over}
+use Rattle.ap_model.specs.ShownRows.{control_row, row}
 use Rattle.ap_model.specs.Stalls.{has_memory_line, need}
 use Rattle.ap_model.specs.States.{start}
 
@@ -35,17 +35,17 @@ abbrev pub is_stalled : Design → TraceLine → Counted → Bool
 is_stalled design inputs counted = nat_lt (counted.held + 1) (greatest_need design 1 counted.state.flights) || (inputs.wait && is_memory_used design 1 counted.state.flights)
 
 -- what decides on a cycle that isn't stalled: no stage is held, and the transfer that the flight in the transfer stage takes
-abbrev pub free_course : Design → List Card → TraceLine → State → Course
-free_course design cards inputs state = record {
+abbrev pub free_control : Design → List Card → TraceLine → State → CycleControl
+free_control design cards inputs state = record {
   held = λ stage. false;
-  taken = option_and_then (λ flight. (flight_done design cards inputs state design.branch flight).target) (flight_at state design.branch);
+  taken = option_and_then (λ flight. (flight_effect design cards inputs state design.branch flight).target) (flight_at state design.branch);
 }
 
 -- one cycle: a stalled one adds 1 to the count and changes nothing else
 unfoldable pub counted_cycle : Design → List Card → Image → TraceLine → Counted → Counted
 counted_cycle design cards image inputs counted =
     if is_stalled design inputs counted then record counted { held = counted.held + 1 }
-    else record { held = 0; state = after_course design cards image inputs counted.state (free_course design cards inputs counted.state) }
+    else record { held = 0; state = after_control design cards image inputs counted.state (free_control design cards inputs counted.state) }
 
 -- the state after c cycles
 unfoldable pub counted_over : Design → List Card → Image → Trace → ℕ → Counted
@@ -56,7 +56,7 @@ counted_over design cards image trace (suc c) = counted_cycle design cards image
 unfoldable pub counted_row_of : Design → List Card → TraceLine → Counted → Row
 counted_row_of design cards inputs counted =
     if is_stalled design inputs counted then record { stall = true; kill = false; writes = [] }
-    else course_row design cards inputs counted.state (free_course design cards inputs counted.state)
+    else control_row design cards inputs counted.state (free_control design cards inputs counted.state)
 
 abbrev pub counted_row : Design → List Card → Image → Trace → ℕ → Row
 counted_row design cards image trace j = counted_row_of design cards (inputs_at design trace j) (counted_over design cards image trace j)

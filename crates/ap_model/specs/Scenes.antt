@@ -1,13 +1,13 @@
 -- What the plain program goes by in one cycle.
 use Rattle.ap_model.specs.Runnable.{IsRunnable}
 use Rattle.ap_model.specs.declared.plain.scene.Scene.{Scene}
-use Rattle.ap_model.specs.Cycles.{Course}
+use Rattle.ap_model.specs.Cycles.{CycleControl}
 use Rattle.ap_model.specs.Fitting.{PortsFit, StoragesFit}
 use Rattle.ap_model.specs.Stalls.{is_held_stage}
 
 -- what decides on the cycle
-abbrev pub course_of_scene : Scene → Course
-course_of_scene scene = record { held = is_held_stage scene.design.now scene.busy.now; taken = scene.taken }
+abbrev pub control_of_scene : Scene → CycleControl
+control_of_scene scene = record { held = is_held_stage scene.design.now scene.busy.now; taken = scene.taken }
 
 -- what flights look at fits
 pub record SceneFits (scene : Scene) : Type 0 where

@@ -8,7 +8,7 @@ use Rattle.ap_desc.specs.declared.design.Design.{Design}
 use Rattle.ap_image.specs.declared.image.Image.{Image}
 use Rattle.ap_model.specs.declared.sequence.Pending.{Pending}
 use Rattle.ap_model.specs.declared.sequence.Progress.{Progress}
-use Rattle.ap_model.specs.declared.state.Done.{Done}
+use Rattle.ap_model.specs.declared.state.StageEffect.{StageEffect}
 use Rattle.ap_model.specs.declared.state.Entry.{Entry}
 use Rattle.ap_model.specs.declared.state.Sample.{Sample}
 use Rattle.ap_model.specs.declared.storage.Storages.{Storages}
@@ -38,12 +38,12 @@ first_some None other = other
 first_some (Some x) other = Some x
 
 -- the instruction after a stage that did this: its writes are applied
-abbrev pub through_stage : ℕ → ℕ → Partway → Done → Partway
-through_stage number stage part done = record {
-  storages = with_writes part.storages done.writes;
-  locals = done.locals;
-  target = first_some part.target done.target;
-  log = part.log ++ entries_of stage number done;
+abbrev pub through_stage : ℕ → ℕ → Partway → StageEffect → Partway
+through_stage number stage part effect = record {
+  storages = with_writes part.storages effect.writes;
+  locals = effect.locals;
+  target = first_some part.target effect.target;
+  log = part.log ++ entries_of stage number effect;
 }
 
 -- an instruction goes through all its stages, from 1 on

@@ -13,7 +13,7 @@ use Rattle.ap_model.specs.declared.state.State.{State}
 use Rattle.ap_model.specs.declared.storage.PortWrite.{PortWrite}
 use Rattle.ap_model.specs.declared.storage.WritePort.{WritePort}
 use Rattle.ap_model.specs.declared.storage.WritePort.TheVariants as port
-use Rattle.ap_model.specs.Cycles.{Course, course_of, cycle_entries, inputs_at, over}
+use Rattle.ap_model.specs.Cycles.{CycleControl, control_of, cycle_entries, inputs_at, over}
 use Rattle.ap_model.specs.Ports.{is_same_port, row_ports}
 
 -- the index or address that is shown: none of a register
@@ -31,17 +31,17 @@ abbrev pub group_writes : ℕ → List WritePort → List PortWrite → List Wri
 group_writes group [] writes = []
 group_writes group (p ∷ ports) writes = map (shown_write group) (filter (λ (w : PortWrite). is_same_port p w.port) writes) ++ group_writes (group + 1) ports writes
 
--- the row of a cycle of this course: it is stalled where stage 0 is held, and a kill where a transfer is taken
-unfoldable pub course_row : Design → List Card → TraceLine → State → Course → Row
-course_row design cards inputs state course = record {
-  stall = course.held 0;
-  kill = is_some course.taken;
-  writes = group_writes 0 (row_ports design) (map (λ (e : Entry). e.write) (cycle_entries design cards inputs state course));
+-- the row of a cycle that this decides on: it is stalled where stage 0 is held, and a kill where a transfer is taken
+unfoldable pub control_row : Design → List Card → TraceLine → State → CycleControl → Row
+control_row design cards inputs state control = record {
+  stall = control.held 0;
+  kill = is_some control.taken;
+  writes = group_writes 0 (row_ports design) (map (λ (e : Entry). e.write) (cycle_entries design cards inputs state control));
 }
 
 -- the row of a cycle that begins in this state, with these inputs
 unfoldable pub cycle_row : Design → List Card → TraceLine → State → Row
-cycle_row design cards inputs state = course_row design cards inputs state (course_of design cards inputs state)
+cycle_row design cards inputs state = control_row design cards inputs state (control_of design cards inputs state)
 
 -- the row of cycle j
 unfoldable pub row : Design → List Card → Image → Trace → ℕ → Row

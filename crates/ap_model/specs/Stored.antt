@@ -11,8 +11,8 @@ abbrev pub reg_value : Storages → ℕ → ℕ
 reg_value storages reg = slice_index storages.regs reg
 
 -- the value of a file's cell
-abbrev pub cell_value : Storages → ℕ → ℕ → ℕ
-cell_value storages file index = slice_index (slice_index_or storages.files file []) index
+abbrev pub file_cell_value : Storages → ℕ → ℕ → ℕ
+file_cell_value storages file index = slice_index (slice_index_or storages.files file []) index
 
 -- the word of a memory at an address
 abbrev pub word_value : Storages → ℕ → ℕ → ℕ

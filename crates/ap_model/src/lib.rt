@@ -14,7 +14,7 @@ pub mod storage;
 
 pub use row::{Row, Write};
 pub use sequence::{Pending, Progress};
-pub use state::{Done, Entry, Flight, InputRead, Pass, Sample, State};
+pub use state::{Entry, Flight, InputRead, Pass, Sample, StageEffect, State};
 pub use storage::{PortWrite, Storage, Storages, WritePort};
 
 #[cfg(test)]

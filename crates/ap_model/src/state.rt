@@ -12,7 +12,7 @@ pub struct InputRead {
 
 /// What a word's instruction does in one stage.
 #[derive(Debug, Drop)]
-pub struct Done {
+pub struct StageEffect {
     /// The instruction's locals up to the end of the stage, in order of assignment.
     pub locals: Items<u64>,
     /// The values that its input reads took.

@@ -11,7 +11,7 @@ use Rattle.ap_net.specs.declared.net.Assign.{Assign}
 use Rattle.ap_net.specs.declared.net.Instance.{Instance}
 use Rattle.ap_net.specs.Names.{IsNetName, IsNew, AreDistinct, IsNotNumbered, HasFresh, numbered}
 use Rattle.ap_net.specs.Cells.{IsNet}
-use Rattle.ap_net.specs.Wiring.{IsFree, Undriven, Unjoined, IsConnected, AreApart, driven_among, driven_by, names_taken, taken_names}
+use Rattle.ap_net.specs.Wiring.{IsFree, Undriven, Unjoined, IsConnected, NoneTwice, driven_among, driven_by, names_taken, taken_names}
 use Rattle.ap_net.proofs.Lists.{All-join, All-front, All-back, All-from, All-both, same_left}
 use Rattle.ap_net.specs.Draft.{is_plain, wire_count}
 use Rattle.ap_net.proofs.Wired.{IsNet-more, number-IsNet, AreDistinct-push, HasFresh-push, count_grows, wire_count-push}
@@ -89,17 +89,17 @@ driven_by-append (i ∷ xs) ys = ap (λ l. driven_among i.drives i.nets ++ l) (d
 driven_by-push : (instances : List Instance) (i : Instance) → driven_by (instances ++ i ∷ []) ≡ driven_by instances ++ driven_among i.drives i.nets
 driven_by-push instances i = driven_by-append instances (i ∷ []) ∙ ap (λ l. driven_by instances ++ l) (append-nil (driven_among i.drives i.nets))
 
-pub AreApart-join : (xs ys : List ℕ) → AreApart xs → AreApart ys → Each (λ y. Each (λ x. x ≢ y) xs) ys → AreApart (xs ++ ys)
-AreApart-join [] ys p q h = q
-AreApart-join (x ∷ xs) ys p q h = (
+pub NoneTwice-join : (xs ys : List ℕ) → NoneTwice xs → NoneTwice ys → Each (λ y. Each (λ x. x ≢ y) xs) ys → NoneTwice (xs ++ ys)
+NoneTwice-join [] ys p q h = q
+NoneTwice-join (x ∷ xs) ys p q h = (
   All-join (λ other. other ≢ x) xs ys p.0 (All-from (λ y. Each (λ z. z ≢ y) (x ∷ xs)) (λ y. y ≢ x) (λ y g e. g.0 (sym e)) ys h),
-  AreApart-join xs ys p.1 q (All-from (λ y. Each (λ z. z ≢ y) (x ∷ xs)) (λ y. Each (λ z. z ≢ y) xs) (λ y g. g.1) ys h),
+  NoneTwice-join xs ys p.1 q (All-from (λ y. Each (λ z. z ≢ y) (x ∷ xs)) (λ y. Each (λ z. z ≢ y) xs) (λ y g. g.1) ys h),
 )
 
 -- an instance more keeps the rules
 pub IsConnected-instance : (nets : List ModuleNet) (assigns : List Assign) (instances : List Instance) (i : Instance) → IsNetName i.name → IsNew i.name (names_taken instances nets) → Each (IsNet nets) i.nets
     → length i.drives ≡ length i.nets → Each (IsFree nets) (driven_among i.drives i.nets) → Each (Undriven assigns) (driven_among i.drives i.nets) → Each (Unjoined instances) (driven_among i.drives i.nets)
-    → AreApart (driven_among i.drives i.nets) → IsConnected nets assigns instances → IsConnected nets assigns (instances ++ i ∷ [])
+    → NoneTwice (driven_among i.drives i.nets) → IsConnected nets assigns instances → IsConnected nets assigns (instances ++ i ∷ [])
 IsConnected-instance nets assigns instances i name new declared paired free undriven unjoined apart h = record {
   names = All-join (λ (x : Instance). IsNetName x.name) instances (i ∷ []) h.names (name, tt);
   distinct = rw (map-append (λ (x : Instance). x.name) instances (i ∷ [])) (AreDistinct-insert (map (λ (x : Instance). x.name) instances) (taken_names nets) i.name new h.distinct);
@@ -107,7 +107,7 @@ IsConnected-instance nets assigns instances i name new declared paired free undr
   paired = All-join (λ (x : Instance). length x.drives ≡ length x.nets) instances (i ∷ []) h.paired (paired, tt);
   free = rw (driven_by-push instances i) (All-join (IsFree nets) (driven_by instances) (driven_among i.drives i.nets) h.free free);
   undriven = rw (driven_by-push instances i) (All-join (Undriven assigns) (driven_by instances) (driven_among i.drives i.nets) h.undriven undriven);
-  once = rw (driven_by-push instances i) (AreApart-join (driven_by instances) (driven_among i.drives i.nets) h.once apart unjoined);
+  once = rw (driven_by-push instances i) (NoneTwice-join (driven_by instances) (driven_among i.drives i.nets) h.once apart unjoined);
 }
 
 -- after a net that isn't named n and a number fresh wires can be had still

@@ -17,7 +17,7 @@ use Rattle.ap_net.specs.declared.net.Assign.{Assign}
 use Rattle.ap_net.specs.declared.net.Instance.{Instance}
 use Rattle.ap_net.specs.Names.{IsNew, IsNotNumbered, HasFresh, numbered}
 use Rattle.ap_net.specs.Cells.{IsNet, operands}
-use Rattle.ap_net.specs.Wiring.{IsSource, IsFree, IsWired, IsConnected, IsOrdered, Undriven, Unjoined, AreApart, Ranked, driven_among, driven_by, names_taken, taken_names, reset_of}
+use Rattle.ap_net.specs.Wiring.{IsSource, IsFree, IsWired, IsConnected, IsOrdered, Undriven, Unjoined, NoneTwice, Ranked, driven_among, driven_by, names_taken, taken_names, reset_of}
 use Rattle.ap_net.specs.Modules.{ModuleText, IsInstanceIn, nets_of, outputs, module_named, port_by, ports_among}
 use Rattle.ap_net.specs.Opened.{SolvesPart, OrdersPart, Follows, IsOpenOrder, AreOrdered}
 use Rattle.ap_net.specs.Draft.{Draft, Extends, OpensOn, Opens, GrowsUp, Adds, Closes, Makes, SettlesOpen, names_of, wire_count, is_wire}
@@ -101,7 +101,7 @@ numbers-above : (n : ℕ) (widths : List ℕ) → Each (λ m. n ≤ m) (map (λ 
 numbers-above n [] = tt
 numbers-above n (width ∷ widths) = (omega arith, All-from (λ m. n + 1 ≤ m) (λ m. n ≤ m) (λ m le. omega arith) (map (λ (w : Wire). w.number) (wires_from (n + 1) widths)) (numbers-above (n + 1) widths))
 
-numbers-apart : (n : ℕ) (widths : List ℕ) → AreApart (map (λ (w : Wire). w.number) (wires_from n widths))
+numbers-apart : (n : ℕ) (widths : List ℕ) → NoneTwice (map (λ (w : Wire). w.number) (wires_from n widths))
 numbers-apart n [] = tt
 numbers-apart n (width ∷ widths) = (All-from (λ m. n + 1 ≤ m) (λ m. m ≢ n) (λ m le e. omega arith) (map (λ (w : Wire). w.number) (wires_from (n + 1) widths)) (numbers-above (n + 1) widths), numbers-apart (n + 1) widths)
 
@@ -333,7 +333,7 @@ module _ (d : Draft) (name : List ℕ) (m : ModuleText) (inputs : List Wire) (wi
       (λ n le. All-from (λ k. k < count) (λ k. k ≢ n) (λ k lt e. absurd (omega arith)) (driven_by d.instances) (driven_within d.nets d.instances connected.declared))
       (map (λ (w : Wire). w.number) outs) (numbers-above count widths))
 
-  pub placed-apart : AreApart (driven_among (outputs m) whole)
+  pub placed-apart : NoneTwice (driven_among (outputs m) whole)
   placed-apart = rw numbers (numbers-apart count widths)
 
   extends : Extends d new

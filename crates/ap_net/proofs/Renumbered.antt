@@ -12,7 +12,7 @@ use Rattle.ap_net.specs.declared.net.Next.{Next}
 use Rattle.ap_net.specs.declared.net.Instance.{Instance}
 use Rattle.ap_net.specs.Names.{IsNetName, IsNew, AreDistinct}
 use Rattle.ap_net.specs.Cells.{operands, widths_of, IsNet, CellFits, cell_value}
-use Rattle.ap_net.specs.Wiring.{reset_of, IsFree, Undriven, AreApart, driven_among, driven_by, taken_names, DrivenOnce, ClockedOnce, NextFits, IsWired, IsConnected, IsDriven, Holds, Settles, Ranked}
+use Rattle.ap_net.specs.Wiring.{reset_of, IsFree, Undriven, NoneTwice, driven_among, driven_by, taken_names, DrivenOnce, ClockedOnce, NextFits, IsWired, IsConnected, IsDriven, Holds, Settles, Ranked}
 use Rattle.ap_net.specs.Modules.{placed, cell_placed, assign_placed, next_placed, instance_placed}
 use Rattle.ap_net.specs.Places.{place_by}
 use Rattle.ap_net.proofs.Lists.{All-from, All-both, All-at, All-front, All-back, All-join, All-map, All-unmap, Each-at, map-map, some_same}
@@ -209,11 +209,11 @@ module _ (olds news : List ModuleNet) (place back : ℕ → ℕ) (r : IsRenumber
   IsNew-placed : (name : List ℕ) → IsNew name (taken_names olds) → IsNew name (taken_names news)
   IsNew-placed name h = (h.0, (h.1.0, All-map (λ other. other ≢ name) (λ (x : ModuleNet). x.name) news (Each-placed (λ (x : ModuleNet). x.name ≢ name) (All-unmap (λ other. other ≢ name) (λ (x : ModuleNet). x.name) olds h.1.1))))
 
-  AreApart-placed : (numbers : List ℕ) → Each (λ n. n < length olds) numbers → AreApart numbers → AreApart (map place numbers)
-  AreApart-placed [] within h = tt
-  AreApart-placed (n ∷ numbers) within h = (
+  NoneTwice-placed : (numbers : List ℕ) → Each (λ n. n < length olds) numbers → NoneTwice numbers → NoneTwice (map place numbers)
+  NoneTwice-placed [] within h = tt
+  NoneTwice-placed (n ∷ numbers) within h = (
     All-map (λ m. m ≢ place n) place numbers (All-both (λ m. m < length olds) (λ m. m ≢ n) (λ m. place m ≢ place n) (λ m lt ne e. ne (place_once m n lt within.0 e)) numbers within.1 h.0),
-    AreApart-placed numbers within.1 h.1,
+    NoneTwice-placed numbers within.1 h.1,
   )
 
   -- the rules of instances hold under the new numbers
@@ -238,7 +238,7 @@ module _ (olds news : List ModuleNet) (place back : ℕ → ℕ) (r : IsRenumber
             (λ n lt none. All-map (λ (a : Assign). a.to.number ≢ place n) (assign_placed place) assigns
             (All-both (λ (a : Assign). IsNet olds a.to) (λ (a : Assign). a.to.number ≢ n) (λ (a : Assign). place a.to.number ≢ place n) (λ a net ne e. ne (place_once a.to.number n (number-IsNet olds a.to net) lt e)) assigns wired.results none))
             (driven_by instances) within h.undriven));
-        once = rw (driven_by-placed place instances) (AreApart-placed (driven_by instances) within h.once);
+        once = rw (driven_by-placed place instances) (NoneTwice-placed (driven_by instances) within h.once);
       }
 
   -- every net keeps its driver

@@ -17,7 +17,7 @@ use Rattle.ap_net.specs.declared.net.Next.{Next}
 use Rattle.ap_net.specs.declared.net.Instance.{Instance}
 use Rattle.ap_net.specs.declared.net.Join.{Join}
 use Rattle.ap_net.specs.Cells.{IsNet, CellFits}
-use Rattle.ap_net.specs.Wiring.{IsSource, reset_of, IsFree, DrivenOnce, ClockedOnce, NextFits, AreApart, driven_among, driven_by}
+use Rattle.ap_net.specs.Wiring.{IsSource, reset_of, IsFree, DrivenOnce, ClockedOnce, NextFits, NoneTwice, driven_among, driven_by}
 use Rattle.ap_net.specs.Modules.{ModuleText, IsModule, nets_of, module_named, IsInstanceIn, port_net, wire_net, reg_net, placed, cell_placed, assign_placed, next_placed}
 use Rattle.ap_net.specs.Flat.{IsFlat, AreClocked, inner_role, plain_nets, nets_in, assigns_in, nexts_in, part_size, part_assigns, part_nexts, part_joins, joins_from, base_from, base_of, opened_over, join_assign, equations}
 use Rattle.ap_net.proofs.Lists.{All-join, All-front, All-back, All-from, All-both, All-at, All-map, Each-at, some_same}
@@ -148,7 +148,7 @@ Each-swap R [] ys h = tt
 Each-swap R (x ∷ xs) ys h = (All-from (λ y. Each (λ z. R z y) (x ∷ xs)) (λ y. R x y) (λ y g. g.0) ys h, Each-swap R xs ys (All-from (λ y. Each (λ z. R z y) (x ∷ xs)) (λ y. Each (λ z. R z y) xs) (λ y g. g.1) ys h))
 
 -- numbers of two lists, all apart
-apart_cross : (xs ys : List ℕ) → AreApart (xs ++ ys) → AreApart xs × AreApart ys × Each (λ x. Each (λ y. y ≢ x) ys) xs
+apart_cross : (xs ys : List ℕ) → NoneTwice (xs ++ ys) → NoneTwice xs × NoneTwice ys × Each (λ x. Each (λ y. y ≢ x) ys) xs
 apart_cross [] ys h = (tt, h, tt)
 apart_cross (x ∷ xs) ys h =
     let rest = apart_cross xs ys h.1 in
@@ -160,7 +160,7 @@ base_from-le modules base (i ∷ instances) zero = omega arith
 base_from-le modules base (i ∷ instances) (suc k) = let le = base_from-le modules (base + part_size modules i) instances k in omega arith
 
 -- the connections of one instance go to different nets, where its ports stand past the nets of top
-joins_once : (count n : ℕ) (drives : List Bool) (nets : List Wire) → count ≤ n → Each (λ (w : Wire). w.number < count) nets → AreApart (driven_among drives nets) → DrivenOnce (map join_assign (joins_from n drives nets))
+joins_once : (count n : ℕ) (drives : List Bool) (nets : List Wire) → count ≤ n → Each (λ (w : Wire). w.number < count) nets → NoneTwice (driven_among drives nets) → DrivenOnce (map join_assign (joins_from n drives nets))
 joins_once count n [] nets le below apart = tt
 joins_once count n (d ∷ drives) [] le below apart = tt
 joins_once count n (true ∷ drives) (w ∷ nets) le below apart = (
@@ -195,7 +195,7 @@ few_joins modules i h =
 
 -- the connections of all instances go to different nets
 part_joins_once : (modules : List ModuleText) (count base : ℕ) (instances : List Instance) → count ≤ base → Each (IsInstanceIn modules) instances → Each (λ (i : Instance). Each (λ (w : Wire). w.number < count) i.nets) instances
-    → Each (λ m. m < count) (driven_by instances) → AreApart (driven_by instances) → DrivenOnce (map join_assign (part_joins modules base instances))
+    → Each (λ m. m < count) (driven_by instances) → NoneTwice (driven_by instances) → DrivenOnce (map join_assign (part_joins modules base instances))
 part_joins_once modules count base [] le within below driven apart = tt
 part_joins_once modules count base (i ∷ instances) le within below driven apart =
     let size : ℕ = part_size modules i in

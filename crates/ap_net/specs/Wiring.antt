@@ -76,9 +76,9 @@ abbrev pub Unjoined : List Instance → ℕ → Type 0
 Unjoined instances n = Each (λ driven. driven ≢ n) (driven_by instances)
 
 -- no number stands twice
-abbrev pub AreApart : List ℕ → Type 0
-AreApart [] = Unit {0}
-AreApart (n ∷ numbers) = Each (λ other. other ≢ n) numbers × AreApart numbers
+abbrev pub NoneTwice : List ℕ → Type 0
+NoneTwice [] = Unit {0}
+NoneTwice (n ∷ numbers) = Each (λ other. other ≢ n) numbers × NoneTwice numbers
 
 -- a register takes a declared net of its own width
 pub record NextFits (nets : List ModuleNet) (x : Next) : Type 0 where
@@ -110,7 +110,7 @@ pub record IsConnected (nets : List ModuleNet) (assigns : List Assign) (instance
   pub paired : Each (λ (i : Instance). length i.drives ≡ length i.nets) instances
   pub free : Each (IsFree nets) (driven_by instances)
   pub undriven : Each (Undriven assigns) (driven_by instances)
-  pub once : AreApart (driven_by instances)
+  pub once : NoneTwice (driven_by instances)
 
 -- every net has its driver: a wire or output an assign or an instance, a register a next
 pub record IsDriven (nets : List ModuleNet) (assigns : List Assign) (nexts : List Next) (instances : List Instance) : Type 0 where

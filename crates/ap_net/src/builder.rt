@@ -2,7 +2,7 @@ ghost use Rattle.std.specs.Prelude.{◌≡◌, ℕ, ◌+◌, ◌<◌, ◌≤◌,
 ghost use Rattle.std.specs.List.{AllByRecursion as Each};
 ghost use Rattle.ap_net.specs.Names.{IsNetName, IsNew, IsNotNumbered, numbered};
 ghost use Rattle.ap_net.specs.Cells.{IsNet, CellFits, cell_value};
-ghost use Rattle.ap_net.specs.Wiring.{IsFree, reset_of, NextFits, IsDriven, Undriven, Unjoined, Unclocked, AreApart, driven_among};
+ghost use Rattle.ap_net.specs.Wiring.{IsFree, reset_of, NextFits, IsDriven, Undriven, Unjoined, Unclocked, NoneTwice, driven_among};
 ghost use Rattle.ap_net.specs.declared.net.Port.{Port};
 ghost use Rattle.ap_net.specs.Modules.{ModuleText, ports_among, outputs, instance_of, module_named, Connects};
 ghost use Rattle.ap_net.specs.Opened.{SolvesPart};
@@ -276,7 +276,7 @@ impl Builder {
         requires free { Each (IsFree self.old.nets) (driven_among (outputs whole.now) nets.now) }
         requires undriven { Each (Undriven self.old.assigns) (driven_among (outputs whole.now) nets.now) }
         requires unjoined { Each (Unjoined self.old.instances) (driven_among (outputs whole.now) nets.now) }
-        requires apart { AreApart (driven_among (outputs whole.now) nets.now) }
+        requires apart { NoneTwice (driven_among (outputs whole.now) nets.now) }
         ensures ok { OnOk result (self.new ≡ record self.old { instances = self.old.instances ++ instance_of name.now whole.now nets.now ∷ [] }) }
         ensures err { OnErr result (self.new ≡ self.old) }
     {

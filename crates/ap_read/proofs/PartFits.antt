@@ -13,7 +13,7 @@ use Rattle.ap_desc.specs.declared.statement.Word.{Word}
 use Rattle.ap_desc.specs.Beside.{EachBeside}
 use Rattle.ap_desc.specs.Reserved.{is_free_name}
 use Rattle.ap_desc.specs.Spelling.{Token, exactly, tagged, number, operand as operand_token, guard_tokens, guard_names, field_names, word_names, is_small, IsToken}
-use Rattle.ap_read.specs.Parts.{Part, named, numeral, operand, Value, Values, value_in, values_in, beside, name_in, word_in, guard_in, cut_on, field_of, field_in, fields_in}
+use Rattle.ap_read.specs.Parts.{Part, named, numeral, operand, Value, Values, part_value, values_in, beside, name_in, word_in, guard_in, cut_on, field_of, field_in, fields_in}
 use Rattle.ap_read.proofs.Names.{free_without, name_from, name_to}
 use Rattle.ap_read.proofs.Tokens.{beside_some, map_some, choose, number_small, same_bytes, word_from, word_to, cut_from, cut_found}
 
@@ -56,7 +56,7 @@ pub record Fits (parts : List Part) (v : Values parts) (tokens : List (List ℕ)
   pub numbers : list_all is_small (tokens_in parts v) ≡ true
   pub spelled : EachBeside IsToken (tokens_in parts v) tokens
 
-pub part_from : (part : Part) (token : List ℕ) (v : Value part) → value_in part token ≡ Some v → FitsPart part v token
+pub part_from : (part : Part) (token : List ℕ) (v : Value part) → part_value part token ≡ Some v → FitsPart part v token
 part_from named token v h =
     let a = name_from token v h in
     record { names = and_from (is_free_name v) true a.0 refl; small = refl; spelled = a.1 }
@@ -65,7 +65,7 @@ part_from operand token v h =
     let a = word_from token v h in
     record { names = a.0; small = refl; spelled = a.1 }
 
-pub part_to : (part : Part) (token : List ℕ) (v : Value part) → FitsPart part v token → value_in part token ≡ Some v
+pub part_to : (part : Part) (token : List ℕ) (v : Value part) → FitsPart part v token → part_value part token ≡ Some v
 part_to named token v h = ap name_in h.spelled ∙ name_to v (and_parts (is_free_name v) true h.names).0
 part_to numeral token v h = ap number_value h.spelled.1 ∙ h.spelled.2
 part_to operand token v h = ap word_in h.spelled ∙ word_to v h.names
@@ -80,7 +80,7 @@ values_from (part ∷ []) (token ∷ []) v h =
 values_from (part ∷ []) (token ∷ more ∷ tokens) v h = cc
 values_from (part ∷ next ∷ parts) [] v h = cc
 values_from (part ∷ next ∷ parts) (token ∷ tokens) v h =
-    beside_some (value_in part token) (values_in (next ∷ parts) tokens) v h (λ e f.
+    beside_some (part_value part token) (values_in (next ∷ parts) tokens) v h (λ e f.
     let a = part_from part token v.0 e in
     let b = values_from (next ∷ parts) tokens v.1 f in
     record {

@@ -10,7 +10,7 @@ use Rattle.ap_desc.specs.declared.statement.Statement.{Statement}
 use Rattle.ap_desc.specs.declared.statement.Statement.TheVariants as s
 use Rattle.ap_desc.specs.Order.{section, section_count, is_header, is_instr, is_micro, is_late_for, is_misplaced, is_inside, is_out_of_order, is_one_too_many, inside_after, micros_after}
 use Rattle.ap_read.specs.declared.place.Place.{Place}
-use Rattle.ap_read.specs.Places.{IsPlaceAfter, is_late_at, is_beyond, count_at, place_after}
+use Rattle.ap_read.specs.Places.{IsPlaceAfter, is_late_at, is_past_limit, count_at, place_after}
 
 or_false_left : (a b : Bool) → (a || b) ≡ false → a ≡ false
 or_false_left true b h = cc
@@ -151,7 +151,7 @@ counted_at : (earlier : List Statement) (place : Place) (statement : Statement) 
 counted_at earlier place statement h fine = count_before earlier place statement (nat_lt (section statement) place.begun) refl h fine
 
 -- and so is its number
-pub number_at : (earlier : List Statement) (place : Place) (statement : Statement) → IsPlaceAfter earlier place → is_late_at place.begun statement ≡ false → is_one_too_many earlier statement ≡ is_beyond place statement
+pub number_at : (earlier : List Statement) (place : Place) (statement : Statement) → IsPlaceAfter earlier place → is_late_at place.begun statement ≡ false → is_one_too_many earlier statement ≡ is_past_limit place statement
 number_at earlier place (s.Reg name width reset) h fine = ap (λ n. n == 64) (counted_at earlier place (s.Reg name width reset) h fine)
 number_at earlier place (s.File name width cells reads writes) h fine = ap (λ n. n == 8) (counted_at earlier place (s.File name width cells reads writes) h fine)
 number_at earlier place (s.Mem name address width) h fine = ap (λ n. n == 4) (counted_at earlier place (s.Mem name address width) h fine)

@@ -11,7 +11,7 @@ use Rattle.ap_desc.specs.declared.fault.Fault.{Fault}
 use Rattle.ap_desc.specs.declared.fault.Fault.TheVariants as f
 use Rattle.ap_desc.specs.Beside.{EachBeside}
 use Rattle.ap_desc.specs.Descriptions.{IsDescription, RiseAbove}
-use Rattle.ap_desc.specs.Faults.{HasFault, IsBefore, IsFaultless, IsLeastFault, description_limit, is_missing_some}
+use Rattle.ap_desc.specs.Faults.{HasFormFault, IsBefore, IsWellFormed, IsLeastFormFault, description_limit, is_missing_some}
 use Rattle.ap_desc.specs.FaultTable.{phase_of}
 use Rattle.ap_desc.specs.Order.{are_in_order}
 use Rattle.ap_desc.specs.Reading.{IsAt, ReadsAs}
@@ -36,21 +36,21 @@ unfolding lines_of
 lines_rise text = rise_filter 0 1 (slice_split is_line_feed text) (omega arith)
 
 -- a text that is too long has no other fault
-pub too_long : (text : List ℕ) → description_limit < length text → IsLeastFault text (record { phase = 1; line = 0; kind = f.TooLong })
+pub too_long : (text : List ℕ) → description_limit < length text → IsLeastFormFault text (record { phase = 1; line = 0; kind = f.TooLong })
 too_long text long = record { phase = refl; holds = (refl, long); least = never }
   where
-    never : (kind : Fault) (line : ℕ) → HasFault text kind line → IsBefore kind line f.TooLong 0 → ⊥
+    never : (kind : Fault) (line : ℕ) → HasFormFault text kind line → IsBefore kind line f.TooLong 0 → ⊥
     never f.TooLong line h before = ⊎_elim (λ lt. omega arith) (λ same. ⊎_elim (λ lt. omega arith) (λ both. let lt = both.1 in omega arith) same.1) before
     never _ line h before = let short = h.0 in omega arith
 
 -- what the text lacks comes before the faults of all lines
-pub missing_first : (text : List ℕ) → length text ≤ description_limit → is_missing_some (lines_of text) ≡ true → IsLeastFault text (record { phase = 1; line = 0; kind = f.Missing })
+pub missing_first : (text : List ℕ) → length text ≤ description_limit → is_missing_some (lines_of text) ≡ true → IsLeastFormFault text (record { phase = 1; line = 0; kind = f.Missing })
 missing_first text short missing = record { phase = refl; holds = (short, (refl, missing)); least = never }
   where
     at_line : (kind : Fault) (line : ℕ) → 0 < line → phase_of kind ≡ 1 → IsBefore kind line f.Missing 0 → ⊥
     at_line kind line lt phase before = ⊎_elim (λ earlier. let wrong : ⊥ = omega arith in wrong) (λ same. ⊎_elim (λ lower. let wrong : ⊥ = omega arith in wrong) (λ both. let zero = both.0 in let wrong : ⊥ = omega arith in wrong) same.1) before
 
-    never : (kind : Fault) (line : ℕ) → HasFault text kind line → IsBefore kind line f.Missing 0 → ⊥
+    never : (kind : Fault) (line : ℕ) → HasFormFault text kind line → IsBefore kind line f.Missing 0 → ⊥
     never f.BadLine line h before = at_line f.BadLine line (fault_above 0 [] (lines_of text) (lines_rise text) f.BadLine line h.1) refl before
     never f.BadOrder line h before = at_line f.BadOrder line (fault_above 0 [] (lines_of text) (lines_rise text) f.BadOrder line h.1) refl before
     never f.TooMany line h before = at_line f.TooMany line (fault_above 0 [] (lines_of text) (lines_rise text) f.TooMany line h.1) refl before
@@ -59,13 +59,13 @@ missing_first text short missing = record { phase = refl; holds = (short, (refl,
     never _ line h before = absurd h.1
 
 -- where nothing is missing, the faults of the text are those of its lines
-fault_of_text : (text : List ℕ) → length text ≤ description_limit → (kind : Fault) (line : ℕ) → HasLineFault [] (lines_of text) kind line → HasFault text kind line
+fault_of_text : (text : List ℕ) → length text ≤ description_limit → (kind : Fault) (line : ℕ) → HasLineFault [] (lines_of text) kind line → HasFormFault text kind line
 fault_of_text text short f.BadLine line h = (short, h)
 fault_of_text text short f.BadOrder line h = (short, h)
 fault_of_text text short f.TooMany line h = (short, h)
 fault_of_text text short _ line h = absurd h
 
-fault_of_lines : (text : List ℕ) → length text ≤ description_limit → is_missing_some (lines_of text) ≡ false → (kind : Fault) (line : ℕ) → HasFault text kind line → HasLineFault [] (lines_of text) kind line
+fault_of_lines : (text : List ℕ) → length text ≤ description_limit → is_missing_some (lines_of text) ≡ false → (kind : Fault) (line : ℕ) → HasFormFault text kind line → HasLineFault [] (lines_of text) kind line
 fault_of_lines text short missing f.BadLine line h = h.1
 fault_of_lines text short missing f.BadOrder line h = h.1
 fault_of_lines text short missing f.TooMany line h = h.1
@@ -83,7 +83,7 @@ least_of_text text (Refused refusal) short missing h = record {
 least_of_text text NoMemory short missing h = tt
 
 -- and a text whose lines say statements in order has none
-pub faultless : AreUnique → (text : List ℕ) (list : List Numbered) → length text ≤ description_limit → is_missing_some (lines_of text) ≡ false → EachBeside IsAt list (lines_of text) → are_in_order [] (said_of list) ≡ true → IsFaultless text
+pub faultless : AreUnique → (text : List ℕ) (list : List Numbered) → length text ≤ description_limit → is_missing_some (lines_of text) ≡ false → EachBeside IsAt list (lines_of text) → are_in_order [] (said_of list) ≡ true → IsWellFormed text
 faultless unique text list short missing beside order kind line h = clean_lines unique (said_of list) (lines_of text) (beside_said list (lines_of text) beside) order kind line (fault_of_lines text short missing kind line h)
 
 spelled : (list : List Numbered) (lines : List TextLine) → EachBeside IsAt list lines → Each (λ (n : Numbered). IsSpellable n.statement) list
@@ -107,7 +107,7 @@ description list lines rising missing beside order = record {
 }
 
 -- a text within the limit that reads as a description has no fault
-pub reads_faultless : AreUnique → (text : List ℕ) (list : List Numbered) → length text ≤ description_limit → IsDescription list → ReadsAs text list → IsFaultless text
+pub reads_faultless : AreUnique → (text : List ℕ) (list : List Numbered) → length text ≤ description_limit → IsDescription list → ReadsAs text list → IsWellFormed text
 reads_faultless unique text list short d reads =
     let complete : not (is_missing_some (lines_of text)) ≡ true = sym (complete_same (said_of list) (lines_of text) (beside_said list (lines_of text) reads.lines)) ∙ d.complete in
     faultless unique text list short (not-true (is_missing_some (lines_of text)) complete) reads.lines d.order

@@ -80,10 +80,10 @@ Value numeral = ℕ
 Value operand = Word
 
 -- what a token gives as this part
-abbrev pub value_in : (part : Part) → List ℕ → Option (Value part)
-value_in named token = name_in token
-value_in numeral token = number_value token
-value_in operand token = word_in token
+abbrev pub part_value : (part : Part) → List ℕ → Option (Value part)
+part_value named token = name_in token
+part_value numeral token = number_value token
+part_value operand token = word_in token
 
 abbrev pub Values : List Part → Type 0
 Values [] = Unit {0}
@@ -95,7 +95,7 @@ abbrev pub values_in : (parts : List Part) → List (List ℕ) → Option (Value
 values_in [] [] = Some tt
 values_in [] (token ∷ tokens) = None
 values_in (part ∷ []) [] = None
-values_in (part ∷ []) (token ∷ []) = value_in part token
+values_in (part ∷ []) (token ∷ []) = part_value part token
 values_in (part ∷ []) (token ∷ more ∷ tokens) = None
 values_in (part ∷ next ∷ parts) [] = None
-values_in (part ∷ next ∷ parts) (token ∷ tokens) = beside (value_in part token) (values_in (next ∷ parts) tokens)
+values_in (part ∷ next ∷ parts) (token ∷ tokens) = beside (part_value part token) (values_in (next ∷ parts) tokens)

@@ -17,15 +17,15 @@ abbrev pub count_at : Place → Statement → ℕ
 count_at place statement = if nat_lt (section statement) place.begun then place.count else 0
 
 -- the statement, one of its fields or the micro-operation would be the first beyond its limit here
-abbrev pub is_beyond : Place → Statement → Bool
-is_beyond place (s.Reg name width reset) = count_at place (s.Reg name width reset) == 64
-is_beyond place (s.File name width cells reads writes) = count_at place (s.File name width cells reads writes) == 8
-is_beyond place (s.Mem name address width) = count_at place (s.Mem name address width) == 4
-is_beyond place (s.In name width) = count_at place (s.In name width) == 8
-is_beyond place (s.Unit name kind width) = count_at place (s.Unit name kind width) == 32
-is_beyond place (s.Format name fields) = (count_at place (s.Format name fields) == 32) || nat_lt 16 (length fields)
-is_beyond place (s.Instr name format fixed) = place.instructions == 256
-is_beyond place statement = is_micro statement && (place.micros == 64)
+abbrev pub is_past_limit : Place → Statement → Bool
+is_past_limit place (s.Reg name width reset) = count_at place (s.Reg name width reset) == 64
+is_past_limit place (s.File name width cells reads writes) = count_at place (s.File name width cells reads writes) == 8
+is_past_limit place (s.Mem name address width) = count_at place (s.Mem name address width) == 4
+is_past_limit place (s.In name width) = count_at place (s.In name width) == 8
+is_past_limit place (s.Unit name kind width) = count_at place (s.Unit name kind width) == 32
+is_past_limit place (s.Format name fields) = (count_at place (s.Format name fields) == 32) || nat_lt 16 (length fields)
+is_past_limit place (s.Instr name format fixed) = place.instructions == 256
+is_past_limit place statement = is_micro statement && (place.micros == 64)
 
 -- the numbers are those of the place after these statements
 pub record IsPlaceAfter (earlier : List Statement) (place : Place) : Type 0 where

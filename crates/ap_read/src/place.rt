@@ -106,7 +106,7 @@ impl Place {
         if self.is_late(statement) || self.is_misplaced(statement) {
             return Some(Fault::BadOrder);
         }
-        if self.is_beyond(statement) {
+        if self.is_past_limit(statement) {
             return Some(Fault::TooMany);
         }
         None
@@ -147,8 +147,8 @@ impl Place {
     }
 
     /// Whether the statement, a field of it or the micro-operation is the first beyond its limit.
-    fn is_beyond(&self, statement: &Statement) -> bool
-        ensures { result ≡ places.is_beyond self.now statement.now }
+    fn is_past_limit(&self, statement: &Statement) -> bool
+        ensures { result ≡ places.is_past_limit self.now statement.now }
     {
         let before = self.count_before(statement);
         match statement {

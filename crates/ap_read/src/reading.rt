@@ -2,7 +2,7 @@ ghost use Rattle.std.specs.Prelude.{◌≡◌, ◌≤◌, IfErr, IfOk, IsTrue, L
 ghost use Rattle.ap_text.specs.Spans.{AreLinesWithin, IsLineWithin, bytes_in, line_in};
 ghost use Rattle.ap_desc.specs.Beside.{EachBeside};
 ghost use Rattle.ap_desc.specs.Descriptions.{IsDescription};
-ghost use Rattle.ap_desc.specs.Faults.{IsFaultless, description_limit};
+ghost use Rattle.ap_desc.specs.Faults.{IsWellFormed, description_limit};
 ghost use Rattle.ap_desc.specs.FaultTable.{phase_of};
 ghost use Rattle.ap_desc.specs.Order.{are_in_order};
 ghost use Rattle.ap_desc.specs.Reading.{IsAt, ReadsAs, SpellsLine};
@@ -111,7 +111,7 @@ fn read_lines(alloc: Global, text: &[u8], lines: &[Line]) -> Result<Items<Number
 /// Reads a text that isn't too long.
 fn read_short(alloc: Global, text: &[u8]) -> Result<Description, DescFault>
     requires { length text.now ≤ description_limit }
-    ensures faultless { IfOk result (λ _. IsFaultless text.now) }
+    ensures faultless { IfOk result (λ _. IsWellFormed text.now) }
     ensures reads { IfOk result (ReadsAs text.now) }
     ensures refused { IfErr result (IsReadFault text.now) }
 {
@@ -133,7 +133,7 @@ fn read_short(alloc: Global, text: &[u8]) -> Result<Description, DescFault>
 /// of bytes.
 pub fn read(alloc: Global, text: &[u8]) -> Result<Description, DescFault>
     // A text that is accepted has no fault, and the description reads it. One that is refused has this least fault.
-    ensures faultless { IfOk result (λ _. IsFaultless text.now) }
+    ensures faultless { IfOk result (λ _. IsWellFormed text.now) }
     ensures reads { IfOk result (ReadsAs text.now) }
     ensures refused { IfErr result (IsReadFault text.now) }
 

@@ -7,7 +7,7 @@ use Rattle.ap_text.specs.Lines.{TextLine, lines_of}
 use Rattle.ap_desc.specs.declared.fault.Fault.{Fault}
 use Rattle.ap_desc.specs.declared.fault.Fault.TheVariants as f
 use Rattle.ap_desc.specs.Faults as faults
-use Rattle.ap_desc.specs.Faults.{IsFaultless, IsLeastFault, description_limit}
+use Rattle.ap_desc.specs.Faults.{IsWellFormed, IsLeastFormFault, description_limit}
 use Rattle.ap_desk.specs.Files.{Becomes, BecomesFrontOrStays, Files, Goes, ReadsUpTo, content}
 use Rattle.ap_top.specs.declared.command.Command.{Command}
 use Rattle.ap_top.specs.declared.command.Command.TheVariants.{Gen}
@@ -23,7 +23,7 @@ use Rattle.ap_top.specs.declared.refusal.Refusal.TheVariants.{Usage, Description
 use Rattle.ap_top.specs.Additions.{Operation, IsAddition}
 use Rattle.ap_top.specs.DesignText.{IsDesignText}
 use Rattle.ap_top.specs.Endings.{Answers, IsDone}
-use Rattle.ap_top.specs.Form.{AreLines, HasAddition, HasFault, IsDescription, IsForm, IsLine, IsNotBuiltAt, IsReadFault, Token, first_form}
+use Rattle.ap_top.specs.Form.{AreLines, HasAddition, HasJudgedFault, IsDescription, IsForm, IsLine, IsNotBuiltAt, IsReadFault, Token, first_form}
 use Rattle.ap_top.specs.Generate.{gen_sources, gen_targets}
 use Rattle.ap_top.specs.Inputs as inputs
 use Rattle.ap_top.specs.Inputs.{AreGood, HasGoodInputs, IsDue, IsGood, IsRefused, RefusesOne, Source, inputs_of, with_text}
@@ -47,7 +47,7 @@ module _ (cards : List Card) where
       h
 
   -- a description without fault has none
-  good_not_refused : (text : List ℕ) (form : Form) (judged : Judged) → IsDescription cards text form → HasFault cards text judged → ⊥
+  good_not_refused : (text : List ℕ) (form : Form) (judged : Judged) → IsDescription cards text form → HasJudgedFault cards text judged → ⊥
   good_not_refused text form (judged.Refused refusal) good fault = good.faultless refusal.kind refusal.line fault.holds
   good_not_refused text form (judged.NotBuilt line) good fault = built (lines_of text) form line good.first.lines good.first.ranges good.unit fault.1
 
@@ -96,18 +96,18 @@ module _ (cards : List Card) where
   answers_good words status (Some files) told' answers good = ⊎_elim (λ done. inl done.0) (λ refused. absurd (good_not_due words files refused.refusal good refused.due)) answers
 
   -- texts that are too long have the same faults
-  long_faults : (one other : List ℕ) → description_limit < length one → description_limit < length other → (kind : Fault) (line : ℕ) → faults.HasFault one kind line → faults.HasFault other kind line
+  long_faults : (one other : List ℕ) → description_limit < length one → description_limit < length other → (kind : Fault) (line : ℕ) → faults.HasFormFault one kind line → faults.HasFormFault other kind line
   long_faults one other long long' f.TooLong line h = (h.0, long')
   long_faults one other long long' _ line h = let short = h.0 in absurd (omega arith)
 
-  long_never : (text : List ℕ) → description_limit < length text → IsFaultless text → ⊥
+  long_never : (text : List ℕ) → description_limit < length text → IsWellFormed text → ⊥
   long_never text long none = none f.TooLong 0 (refl, long)
 
   -- the bytes that were read are the file, or both are too long
   read_same : (files : Files) (name bytes : List ℕ) → ReadsUpTo files name 1048576 bytes → (bytes ≡ content files name) ⊎ ((description_limit < length bytes) × (description_limit < length (content files name)))
   read_same files name bytes h = ⊎_elim (λ long. inr (h.longer.1 long, long)) (λ short. inl (h.whole short)) (cases_lt 1048576 (length (content files name)))
 
-  long_refused : (one other : List ℕ) (judged : Judged) → description_limit < length one → description_limit < length other → HasFault cards one judged → HasFault cards other judged
+  long_refused : (one other : List ℕ) (judged : Judged) → description_limit < length one → description_limit < length other → HasJudgedFault cards one judged → HasJudgedFault cards other judged
   long_refused one other (judged.Refused refusal) long long' h = record {
     phase = h.phase;
     holds = long_faults one other long long' refusal.kind refusal.line h.holds;
@@ -115,8 +115,8 @@ module _ (cards : List Card) where
   }
   long_refused one other (judged.NotBuilt line) long long' h = absurd (long_never one long h.0)
 
-  file_refused : (files : Files) (name bytes : List ℕ) (judged : Judged) → ReadsUpTo files name 1048576 bytes → HasFault cards bytes judged → HasFault cards (content files name) judged
-  file_refused files name bytes judged h fault = ⊎_elim (λ e. subst (λ t. HasFault cards t judged) e fault) (λ long. long_refused bytes (content files name) judged long.0 long.1 fault) (read_same files name bytes h)
+  file_refused : (files : Files) (name bytes : List ℕ) (judged : Judged) → ReadsUpTo files name 1048576 bytes → HasJudgedFault cards bytes judged → HasJudgedFault cards (content files name) judged
+  file_refused files name bytes judged h fault = ⊎_elim (λ e. subst (λ t. HasJudgedFault cards t judged) e fault) (λ long. long_refused bytes (content files name) judged long.0 long.1 fault) (read_same files name bytes h)
 
   file_good : (files : Files) (name bytes : List ℕ) (form : Form) → ReadsUpTo files name 1048576 bytes → IsDescription cards bytes form → IsDescription cards (content files name) form
   file_good files name bytes form h good = ⊎_elim (λ e. subst (λ t. IsDescription cards t form) e good) (λ long. absurd (long_never bytes long.0 good.faultless)) (read_same files name bytes h)

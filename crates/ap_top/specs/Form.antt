@@ -4,7 +4,7 @@ use Rattle.std.specs.Prelude.{◌≡◌, ◌⊎◌, ℕ, ◌≤◌, ◌<◌, ◌
 use Rattle.ap_bits.specs.declared.card.Card.{Card}
 use Rattle.ap_text.specs.Lines.{TextLine, lines_of}
 use Rattle.ap_text.specs.Numbers.{number_value}
-use Rattle.ap_desc.specs.Faults.{IsFaultless, IsLeastFault, StandsAt}
+use Rattle.ap_desc.specs.Faults.{IsWellFormed, IsLeastFormFault, StandsAt}
 use Rattle.ap_desc.specs.declared.fault.DescFault.{DescFault}
 use Rattle.ap_desc.specs.declared.fault.DescFault.TheVariants as fault
 use Rattle.ap_top.specs.declared.form.Form.{Form}
@@ -143,18 +143,18 @@ pub record IsFirstForm (text : List ℕ) (form : Form) : Type 0 where
 
 -- the text is a description without fault, of the form with these numbers, whose unit the shelf has
 pub record IsDescription (cards : List Card) (text : List ℕ) (form : Form) : Type 0 where
-  pub faultless : IsFaultless text
+  pub faultless : IsWellFormed text
   pub first : IsFirstForm text form
   pub unit : HasAddition cards form.width
 
 -- the fault is the text's: its least fault of form; or it has none, and isn't of the form from this line on
-abbrev pub HasFault : List Card → List ℕ → Judged → Type 0
-HasFault cards text (judged.Refused refusal) = IsLeastFault text refusal
-HasFault cards text (judged.NotBuilt line) = IsFaultless text × IsNotBuiltAt cards (lines_of text) line
+abbrev pub HasJudgedFault : List Card → List ℕ → Judged → Type 0
+HasJudgedFault cards text (judged.Refused refusal) = IsLeastFormFault text refusal
+HasJudgedFault cards text (judged.NotBuilt line) = IsWellFormed text × IsNotBuiltAt cards (lines_of text) line
 
 -- why reading a text gave no form
 abbrev pub IsReadFault : List Card → List ℕ → ReadFault → Type 0
-IsReadFault cards text (Refused judged) = HasFault cards text judged
+IsReadFault cards text (Refused judged) = HasJudgedFault cards text judged
 IsReadFault cards text NoMemory = Unit {0}
 
 -- why lines gave no form: they aren't its lines from this one on

@@ -13,7 +13,7 @@ use Rattle.ap_top.specs.declared.form.Form.{Form}
 use Rattle.ap_top.specs.declared.refusal.Refusal.{Refusal}
 use Rattle.ap_top.specs.declared.refusal.Refusal.TheVariants as refusal
 use Rattle.ap_top.specs.Commands.{Operand, IsCall, IsCommand, operands_of}
-use Rattle.ap_top.specs.Form.{IsDescription, HasFault}
+use Rattle.ap_top.specs.Form.{IsDescription, HasJudgedFault}
 
 -- an input: what its text holds, and the file's name
 abbrev pub Source : Type 0
@@ -35,7 +35,7 @@ IsFaultless cards before input.Description text = (form : Form) × IsDescription
 -- the text of an input is refused so
 abbrev pub IsRefused : List Card → List (List ℕ) → Input → List ℕ → Refusal → Type 0
 IsRefused cards before input.Description text refusal.Usage = ⊥
-IsRefused cards before input.Description text (refusal.Description judged) = HasFault cards text judged
+IsRefused cards before input.Description text (refusal.Description judged) = HasJudgedFault cards text judged
 
 -- the file is there
 abbrev pub IsThere : Files → List ℕ → Type 0

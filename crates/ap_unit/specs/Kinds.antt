@@ -14,8 +14,8 @@ abbrev pub names_of : List Card → List (List ℕ)
 names_of cards = map (λ card. card.name) cards
 
 -- each name stands once
-abbrev pub NamesDiffer : List Card → Type 0
-NamesDiffer cards = AreDistinct (names_of cards)
+abbrev pub KindsDiffer : List Card → Type 0
+KindsDiffer cards = AreDistinct (names_of cards)
 
 -- the name at place i stood earlier
 abbrev pub StoodEarlier : List (List ℕ) → ℕ → Type 0

@@ -1,6 +1,6 @@
 ghost use Rattle.std.specs.Prelude.{◌≡◌, ℕ, ◌<◌, ◌^◌, List, map, OnOk, IfOk, IfErr, IfSome, IfNone, length, vec_len, slice_get, Some, IsTrue, ◌↔◌};
 ghost use Rattle.std.specs.Str.{bytes_eq};
-ghost use Rattle.ap_unit.specs.Kinds.{place_of, names_of, NamesDiffer, StoodEarlier};
+ghost use Rattle.ap_unit.specs.Kinds.{place_of, names_of, KindsDiffer, StoodEarlier};
 
 use crate::kind::UnitKind;
 
@@ -72,7 +72,7 @@ impl Shelf {
     pub fn new(kinds: Vec<Box<dyn UnitKind>>) -> Result<Shelf, ShelfFault>
         requires { vec_len kinds < 2 ^ 32 }
         ensures ok { IfOk result (λ shelf. cards_of (λ v x. (⟦<dyn UnitKind as UnitKind>⟧ v).card x) shelf ≡ map (λ b. (⟦<dyn UnitKind as UnitKind>⟧ b.vtable).card b.value) kinds.items) }
-        ensures differ { OnOk result (NamesDiffer (map (λ b. (⟦<dyn UnitKind as UnitKind>⟧ b.vtable).card b.value) kinds.items)) }
+        ensures differ { OnOk result (KindsDiffer (map (λ b. (⟦<dyn UnitKind as UnitKind>⟧ b.vtable).card b.value) kinds.items)) }
         ensures twice { IfErr result (IsLeastTwice (map (λ b. (⟦<dyn UnitKind as UnitKind>⟧ b.vtable).card b.value) kinds.items)) }
     {
         match first_twice(&kinds) {

@@ -5,17 +5,17 @@ ghost use Rattle.ap_desc.specs.declared.design.File.{File};
 ghost use Rattle.ap_desc.specs.declared.design.InPort.{InPort};
 ghost use Rattle.ap_desc.specs.declared.design.Reg.{Reg};
 ghost use Rattle.ap_image.specs.FitsShape.{ImageFitsShape, TraceFitsShape};
-ghost use Rattle.ap_model.specs.Cycles.{course_of, cycle, cycle_entries, inputs_at};
+ghost use Rattle.ap_model.specs.Cycles.{control_of, cycle, cycle_entries, inputs_at};
 ghost use Rattle.ap_model.specs.DesignShape.{shape_of};
 ghost use Rattle.ap_model.specs.Fitting.{CountsWithin, FlightsFit, PortsFit, StateFits, StoragesFit};
 ghost use Rattle.ap_model.specs.Ports.{is_same_port};
-ghost use Rattle.ap_model.specs.Scenes.{SceneFits, course_of_scene};
-ghost use Rattle.ap_model.specs.ShownRows.{course_row, cycle_row, group_writes, rows_of, shown_index, shown_write};
+ghost use Rattle.ap_model.specs.Scenes.{SceneFits, control_of_scene};
+ghost use Rattle.ap_model.specs.ShownRows.{control_row, cycle_row, group_writes, rows_of, shown_index, shown_write};
 ghost use Rattle.ap_model.specs.Stalls.{busy_from};
 ghost use Rattle.ap_model.specs.States.{start, start_storages};
 ghost use Rattle.ap_model.specs.declared.storage.PortWrite.{PortWrite};
 
-use super::cycle::{after_course, busy_stages, cycle_entries, taken_transfer, writes_of};
+use super::cycle::{after_control, busy_stages, cycle_entries, taken_transfer, writes_of};
 use super::lists::{copied, listed};
 use super::ports::{is_same_port, row_ports};
 use super::scene::{Scene, is_held};
@@ -193,11 +193,11 @@ fn add_group_writes(
 
 /// The row of the cycle.
 #[tactic(auto, using(crate::proofs::SceneLemmas::scene_parts))]
-fn course_row(alloc: Global, scene: &Scene) -> Result<Row, NoMemory>
+fn control_row(alloc: Global, scene: &Scene) -> Result<Row, NoMemory>
     requires scene { SceneFits scene.now }
     requires state { StateFits scene.now.design.now scene.now.state.now }
     requires room { length scene.now.state.now.flights < 50 }
-    ensures { IfOk result (λ r. r ≡ course_row scene.now.design.now scene.now.cards.now scene.now.inputs.now scene.now.state.now (course_of_scene scene.now)) }
+    ensures { IfOk result (λ r. r ≡ control_row scene.now.design.now scene.now.cards.now scene.now.inputs.now scene.now.state.now (control_of_scene scene.now)) }
 {
     let entries = cycle_entries(alloc, scene)?;
     let writes = writes_of(alloc, entries.as_slice())?;
@@ -247,8 +247,8 @@ fn shown_cycle(
         busy: &busy,
         taken,
     };
-    let row = course_row(alloc, &scene)?;
-    let next = after_course(alloc, &scene, image)?;
+    let row = control_row(alloc, &scene)?;
+    let next = after_control(alloc, &scene, image)?;
     Ok(Shown { row, state: next })
 }
 

@@ -1,14 +1,14 @@
 //! What the flights do in one cycle.
 ghost use Rattle.std.specs.Prelude.{◌≡◌, ◌++◌, ◌+◌, ◌<◌, ◌^◌, [], IfOk, IfSome, OnOk, length, if◌then◌else◌, map, option_map};
 ghost use Rattle.std.specs.Option.{option_map_or};
-ghost use Rattle.ap_model.specs.Cycles.{done_in, entry_of, sample_of, flight_entries, flight_passes, flight_samples, flights_from, from_last, is_killed, leaving, staying, unkilled_number};
-ghost use Rattle.ap_model.specs.Fitting.{DoneFits, EntriesFit, FlightFits, FlightsFit, WaitsWithin};
-ghost use Rattle.ap_model.specs.Scenes.{SceneFits, course_of_scene};
+ghost use Rattle.ap_model.specs.Cycles.{effect_in, entry_of, sample_of, flight_entries, flight_passes, flight_samples, flights_from, from_last, is_killed, leaving, staying, unkilled_number};
+ghost use Rattle.ap_model.specs.Fitting.{EffectFits, EntriesFit, FlightFits, FlightsFit, WaitsWithin};
+ghost use Rattle.ap_model.specs.Scenes.{SceneFits, control_of_scene};
 
 use super::lists::copied;
 use super::stage::fire;
 use super::stalls::is_held_stage;
-use crate::state::{Done, Entry, Flight, InputRead, Pass, Sample, State};
+use crate::state::{Entry, Flight, InputRead, Pass, Sample, StageEffect, State};
 use crate::storage::PortWrite;
 use ap_bits::{Card, Items, NoMemory};
 use ap_desc::design::Design;
@@ -29,37 +29,37 @@ pub(crate) struct Scene<'a> {
 
 /// Whether the stage is held.
 pub(crate) fn is_held(scene: &Scene, stage: u32) -> bool
-    ensures { result ≡ (course_of_scene scene.now).held stage }
+    ensures { result ≡ (control_of_scene scene.now).held stage }
 {
     is_held_stage(scene.design, scene.busy, stage)
 }
 
 /// Whether the flight in the stage is killed.
 pub(crate) fn is_killed(scene: &Scene, stage: u32) -> bool
-    ensures { result ≡ is_killed scene.now.design.now (course_of_scene scene.now) stage }
+    ensures { result ≡ is_killed scene.now.design.now (control_of_scene scene.now) stage }
 {
     let before = scene.design.branch.saturating_sub(stage);
     scene.taken.is_some() && scene.design.slots < before
 }
 
 /// What a flight does: nothing where its stage is held or it is killed.
-fn done_in(
+fn effect_in(
     alloc: Global,
     scene: &Scene,
     stage: u32,
     flight: &Flight,
-) -> Result<Option<Done>, NoMemory>
+) -> Result<Option<StageEffect>, NoMemory>
     requires scene { SceneFits scene.now }
     requires flight { FlightFits scene.now.design.now stage flight.now }
-    ensures value { IfOk result (λ d. d ≡ done_in scene.now.design.now scene.now.cards.now scene.now.inputs.now scene.now.state.now (course_of_scene scene.now) stage flight.now) }
-    ensures fits { IfOk result (λ d. IfSome d (DoneFits scene.now.design.now flight.now.word stage)) }
+    ensures value { IfOk result (λ d. d ≡ effect_in scene.now.design.now scene.now.cards.now scene.now.inputs.now scene.now.state.now (control_of_scene scene.now) stage flight.now) }
+    ensures fits { IfOk result (λ d. IfSome d (EffectFits scene.now.design.now flight.now.word stage)) }
 {
     if is_held(scene, stage) || is_killed(scene, stage) {
         return Ok(None);
     }
     let storages = &scene.state.storages;
     let ports = scene.inputs.ports.as_slice();
-    let done = fire(
+    let effect = fire(
         alloc,
         scene.design,
         scene.cards,
@@ -68,7 +68,7 @@ fn done_in(
         storages,
         ports,
     )?;
-    Ok(Some(done))
+    Ok(Some(effect))
 }
 
 /// Adds the writes of a flight.
@@ -114,14 +114,14 @@ fn add_flight_entries(
 ) -> Result<(), NoMemory>
     requires scene { SceneFits scene.now }
     requires flight { IfSome flight.now (FlightFits scene.now.design.now stage) }
-    ensures value { OnOk result (out.new ≡ out.old ++ option_map_or (flight_entries scene.now.design.now scene.now.cards.now scene.now.inputs.now scene.now.state.now (course_of_scene scene.now) stage) flight.now []) }
-    ensures fits { OnOk result (EntriesFit scene.now.design.now (option_map_or (flight_entries scene.now.design.now scene.now.cards.now scene.now.inputs.now scene.now.state.now (course_of_scene scene.now) stage) flight.now [])) }
+    ensures value { OnOk result (out.new ≡ out.old ++ option_map_or (flight_entries scene.now.design.now scene.now.cards.now scene.now.inputs.now scene.now.state.now (control_of_scene scene.now) stage) flight.now []) }
+    ensures fits { OnOk result (EntriesFit scene.now.design.now (option_map_or (flight_entries scene.now.design.now scene.now.cards.now scene.now.inputs.now scene.now.state.now (control_of_scene scene.now) stage) flight.now [])) }
 {
     let Some(flight) = flight else {
         return Ok(());
     };
-    if let Some(done) = done_in(alloc, scene, stage, flight)? {
-        add_writes(flight.number, stage, done.writes.as_slice(), out)?;
+    if let Some(effect) = effect_in(alloc, scene, stage, flight)? {
+        add_writes(flight.number, stage, effect.writes.as_slice(), out)?;
     }
     Ok(())
 }
@@ -136,13 +136,13 @@ fn add_flight_samples(
 ) -> Result<(), NoMemory>
     requires scene { SceneFits scene.now }
     requires flight { IfSome flight.now (FlightFits scene.now.design.now stage) }
-    ensures { OnOk result (out.new ≡ out.old ++ option_map_or (flight_samples scene.now.design.now scene.now.cards.now scene.now.inputs.now scene.now.state.now (course_of_scene scene.now) stage) flight.now []) }
+    ensures { OnOk result (out.new ≡ out.old ++ option_map_or (flight_samples scene.now.design.now scene.now.cards.now scene.now.inputs.now scene.now.state.now (control_of_scene scene.now) stage) flight.now []) }
 {
     let Some(flight) = flight else {
         return Ok(());
     };
-    match done_in(alloc, scene, stage, flight)? {
-        Some(done) => add_reads(flight.number, done.reads.as_slice(), out),
+    match effect_in(alloc, scene, stage, flight)? {
+        Some(effect) => add_reads(flight.number, effect.reads.as_slice(), out),
         None => Ok(()),
     }
 }
@@ -154,7 +154,7 @@ fn add_flight_passes(
     flight: &Option<Flight>,
     out: &mut Items<Pass>,
 ) -> Result<(), NoMemory>
-    ensures { OnOk result (out.new ≡ out.old ++ option_map_or (flight_passes scene.now.design.now (course_of_scene scene.now) stage) flight.now []) }
+    ensures { OnOk result (out.new ≡ out.old ++ option_map_or (flight_passes scene.now.design.now (control_of_scene scene.now) stage) flight.now []) }
 {
     let Some(flight) = flight else {
         return Ok(());
@@ -175,7 +175,7 @@ fn add_flight_number(
     flight: &Option<Flight>,
     out: &mut Items<u64>,
 ) -> Result<(), NoMemory>
-    ensures { OnOk result (out.new ≡ out.old ++ option_map_or (unkilled_number scene.now.design.now (course_of_scene scene.now) stage) flight.now []) }
+    ensures { OnOk result (out.new ≡ out.old ++ option_map_or (unkilled_number scene.now.design.now (control_of_scene scene.now) stage) flight.now []) }
 {
     let Some(flight) = flight else {
         return Ok(());
@@ -197,8 +197,8 @@ pub(crate) fn add_entries(
     requires scene { SceneFits scene.now }
     requires room { stage + length flights.now < 100 }
     requires flights { FlightsFit scene.now.design.now stage flights.now }
-    ensures value { OnOk result (out.new ≡ out.old ++ from_last (flight_entries scene.now.design.now scene.now.cards.now scene.now.inputs.now scene.now.state.now (course_of_scene scene.now)) stage flights.now) }
-    ensures fits { OnOk result (EntriesFit scene.now.design.now (from_last (flight_entries scene.now.design.now scene.now.cards.now scene.now.inputs.now scene.now.state.now (course_of_scene scene.now)) stage flights.now)) }
+    ensures value { OnOk result (out.new ≡ out.old ++ from_last (flight_entries scene.now.design.now scene.now.cards.now scene.now.inputs.now scene.now.state.now (control_of_scene scene.now)) stage flights.now) }
+    ensures fits { OnOk result (EntriesFit scene.now.design.now (from_last (flight_entries scene.now.design.now scene.now.cards.now scene.now.inputs.now scene.now.state.now (control_of_scene scene.now)) stage flights.now)) }
 {
     match flights {
         [] => Ok(()),
@@ -221,7 +221,7 @@ pub(crate) fn add_samples(
     requires scene { SceneFits scene.now }
     requires room { stage + length flights.now < 100 }
     requires flights { FlightsFit scene.now.design.now stage flights.now }
-    ensures { OnOk result (out.new ≡ out.old ++ from_last (flight_samples scene.now.design.now scene.now.cards.now scene.now.inputs.now scene.now.state.now (course_of_scene scene.now)) stage flights.now) }
+    ensures { OnOk result (out.new ≡ out.old ++ from_last (flight_samples scene.now.design.now scene.now.cards.now scene.now.inputs.now scene.now.state.now (control_of_scene scene.now)) stage flights.now) }
 {
     match flights {
         [] => Ok(()),
@@ -240,7 +240,7 @@ pub(crate) fn add_passes(
     out: &mut Items<Pass>,
 ) -> Result<(), NoMemory>
     requires room { stage + length flights.now < 100 }
-    ensures { OnOk result (out.new ≡ out.old ++ from_last (flight_passes scene.now.design.now (course_of_scene scene.now)) stage flights.now) }
+    ensures { OnOk result (out.new ≡ out.old ++ from_last (flight_passes scene.now.design.now (control_of_scene scene.now)) stage flights.now) }
 {
     match flights {
         [] => Ok(()),
@@ -259,7 +259,7 @@ pub(crate) fn add_numbers(
     out: &mut Items<u64>,
 ) -> Result<(), NoMemory>
     requires room { stage + length flights.now < 100 }
-    ensures { OnOk result (out.new ≡ out.old ++ from_last (unkilled_number scene.now.design.now (course_of_scene scene.now)) stage flights.now) }
+    ensures { OnOk result (out.new ≡ out.old ++ from_last (unkilled_number scene.now.design.now (control_of_scene scene.now)) stage flights.now) }
 {
     match flights {
         [] => Ok(()),
@@ -279,18 +279,18 @@ fn leaving(
 ) -> Result<Option<Flight>, NoMemory>
     requires scene { SceneFits scene.now }
     requires flight { IfSome flight.now (FlightFits scene.now.design.now stage) }
-    ensures value { IfOk result (λ l. l ≡ leaving scene.now.design.now scene.now.cards.now scene.now.inputs.now scene.now.state.now (course_of_scene scene.now) stage flight.now) }
+    ensures value { IfOk result (λ l. l ≡ leaving scene.now.design.now scene.now.cards.now scene.now.inputs.now scene.now.state.now (control_of_scene scene.now) stage flight.now) }
     ensures fits { IfOk result (λ l. IfSome l (FlightFits scene.now.design.now (stage + 1))) }
 {
     let Some(flight) = flight else {
         return Ok(None);
     };
-    match done_in(alloc, scene, stage, flight)? {
-        Some(done) => Ok(Some(Flight {
+    match effect_in(alloc, scene, stage, flight)? {
+        Some(effect) => Ok(Some(Flight {
             number: flight.number,
             word: flight.word,
             place: flight.place,
-            locals: done.locals,
+            locals: effect.locals,
             waited: 0,
         })),
         None => Ok(None),
@@ -345,8 +345,8 @@ pub(crate) fn add_flights(
     requires flights { FlightsFit scene.now.design.now stage flights.now }
     requires waits { WaitsWithin (2 ^ 63) flights.now }
     requires coming { IfSome coming (FlightFits scene.now.design.now stage) }
-    ensures value { OnOk result (out.new ≡ out.old ++ flights_from scene.now.design.now scene.now.cards.now scene.now.inputs.now scene.now.state.now (course_of_scene scene.now) stage coming flights.now) }
-    ensures fits { OnOk result (FlightsFit scene.now.design.now stage (flights_from scene.now.design.now scene.now.cards.now scene.now.inputs.now scene.now.state.now (course_of_scene scene.now) stage coming flights.now)) }
+    ensures value { OnOk result (out.new ≡ out.old ++ flights_from scene.now.design.now scene.now.cards.now scene.now.inputs.now scene.now.state.now (control_of_scene scene.now) stage coming flights.now) }
+    ensures fits { OnOk result (FlightsFit scene.now.design.now stage (flights_from scene.now.design.now scene.now.cards.now scene.now.inputs.now scene.now.state.now (control_of_scene scene.now) stage coming flights.now)) }
 {
     match flights {
         [] => Ok(()),

@@ -3,14 +3,14 @@ ghost use Rattle.std.specs.Prelude.{◌≡◌, ℕ, ◌+◌, ◌^◌, ◌<◌, I
 ghost use Rattle.ap_model.specs.Runnable.{IsRunnable};
 ghost use Rattle.ap_desc.specs.declared.design.Micro.{Micro};
 ghost use Rattle.ap_desc.specs.Widths.{has_widths};
-ghost use Rattle.ap_model.specs.Fire.{arg_value, bits_of_arg, fire, input_of, instr_of, lines_done, lines_in, locals_after, read_of, target_of, where_guard, write_of};
-ghost use Rattle.ap_model.specs.Fitting.{LocalsFit, LocalsStand, SightFits, StoragesFit, DoneFits, FlightFits, PortsFit, GoesByLine, IsGood};
+ghost use Rattle.ap_model.specs.Fire.{arg_value, bits_of_arg, fire, input_of, instr_of, lines_effect, lines_in, locals_after, read_of, target_of, where_guard, write_of};
+ghost use Rattle.ap_model.specs.Fitting.{LocalsFit, LocalsStand, SightFits, StoragesFit, EffectFits, FlightFits, PortsFit, GoesByLine, IsGood};
 ghost use Rattle.ap_model.specs.PlainViews.{sight_of};
 
 use super::lists::{copied, listed};
 use super::ports::ordered;
 use super::values::{View, act_value, arg_value, at};
-use crate::state::{Done, Flight, InputRead};
+use crate::state::{Flight, InputRead, StageEffect};
 use crate::storage::{PortWrite, Storages, WritePort};
 use ap_bits::{Card, Items, NoMemory};
 use ap_desc::design::{Act, Arg, Design, Instr, Micro};
@@ -198,13 +198,18 @@ fn writes(
 }
 
 /// What the lines of a stage do.
-#[tactic(auto, using(crate::proofs::DoneLemmas::few_parts, crate::proofs::PlainWidths::place_within))]
-fn lines_done(alloc: Global, view: &View, stage: u32, before: &[u64]) -> Result<Done, NoMemory>
+#[tactic(auto, using(crate::proofs::EffectLemmas::few_parts, crate::proofs::PlainWidths::place_within))]
+fn lines_effect(
+    alloc: Global,
+    view: &View,
+    stage: u32,
+    before: &[u64],
+) -> Result<StageEffect, NoMemory>
     requires sight { SightFits (sight_of view.now) }
     requires good { IsGood view.now.design.now view.now.instr.now }
     requires stand { LocalsStand view.now.design.now view.now.instr.now stage before.now }
-    ensures value { IfOk result (λ done. done ≡ lines_done (sight_of view.now) before.now (lines_in stage view.now.instr.now)) }
-    ensures stand { IfOk result (λ done. LocalsStand view.now.design.now view.now.instr.now (stage + 1) done.locals) }
+    ensures value { IfOk result (λ effect. effect ≡ lines_effect (sight_of view.now) before.now (lines_in stage view.now.instr.now)) }
+    ensures stand { IfOk result (λ effect. LocalsStand view.now.design.now view.now.instr.now (stage + 1) effect.locals) }
 {
     let locals = locals_after(alloc, view, stage, before)?;
     let reads = listed(alloc, reads(alloc, view, stage)?)?;
@@ -212,7 +217,7 @@ fn lines_done(alloc: Global, view: &View, stage: u32, before: &[u64]) -> Result<
     let target = targets.first().copied();
     let writes = writes(alloc, view, stage, locals.as_slice())?;
     let writes = ordered(alloc, view.design, &writes)?;
-    Ok(Done {
+    Ok(StageEffect {
         locals,
         reads,
         target,
@@ -229,13 +234,13 @@ pub(crate) fn fire(
     flight: &Flight,
     storages: &Storages,
     ports: &[u64],
-) -> Result<Done, NoMemory>
+) -> Result<StageEffect, NoMemory>
     requires design { IsRunnable design.now cards.now }
     requires storages { StoragesFit design.now storages.now }
     requires ports { PortsFit design.now ports.now }
     requires flight { FlightFits design.now stage flight.now }
-    ensures value { IfOk result (λ done. done ≡ fire design.now cards.now stage flight.now.place flight.now.word flight.now.locals storages.now (λ line input. slice_index ports.now input)) }
-    ensures fits { IfOk result (λ done. DoneFits design.now flight.now.word stage done) }
+    ensures value { IfOk result (λ effect. effect ≡ fire design.now cards.now stage flight.now.place flight.now.word flight.now.locals storages.now (λ line input. slice_index ports.now input)) }
+    ensures fits { IfOk result (λ effect. EffectFits design.now flight.now.word stage effect) }
 {
     match instr_of(design, flight.word) {
         Some(instr) => {
@@ -248,12 +253,12 @@ pub(crate) fn fire(
                 storages,
                 ports,
             };
-            let done = lines_done(alloc, &view, stage, flight.locals.as_slice())?;
-            Ok(done)
+            let effect = lines_effect(alloc, &view, stage, flight.locals.as_slice())?;
+            Ok(effect)
         }
         None => {
             let locals = copied(alloc, flight.locals.as_slice())?;
-            Ok(Done {
+            Ok(StageEffect {
                 locals,
                 reads: Items::new(alloc),
                 target: None,

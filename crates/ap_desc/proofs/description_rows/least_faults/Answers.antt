@@ -10,8 +10,8 @@ use Rattle.ap_desc.specs.DesignOf.{design_of}
 use Rattle.ap_desc.specs.Examples.{smallest_but}
 use Rattle.ap_desc.specs.Faults.{IsBefore}
 use Rattle.ap_desc.specs.FaultTable.{phase_of}
-use Rattle.ap_desc.specs.LineFaults.{HasLineFault}
-use Rattle.ap_desc.specs.Meaning.{MeetsFault}
+use Rattle.ap_desc.specs.StatementFaults.{HasStatementFault}
+use Rattle.ap_desc.specs.Meaning.{MeetsMeaningFault}
 use Rattle.ap_desc.specs.declared.description.Numbered.{Numbered}
 use Rattle.ap_desc.specs.declared.fault.Fault.{Fault}
 use Rattle.ap_desc.specs.declared.fault.Fault.TheVariants as f
@@ -22,10 +22,10 @@ abbrev wide_word : List Numbered
 wide_word = smallest_but 65 0 8 0 []
 
 -- no name of it is faulty, and no width before line 3
-word_names : (kind : Fault) (line : ℕ) → Contains name_kinds kind → HasLineFault wide_word [] kind line → ⊥
+word_names : (kind : Fault) (line : ℕ) → Contains name_kinds kind → HasStatementFault wide_word [] kind line → ⊥
 word_names kind line known h = clear_of wide_word [] name_kinds (λ n. true) refl kind line known refl h
 
-word_widths : (kind : Fault) (line : ℕ) → Contains width_kinds kind → line < 3 → HasLineFault wide_word [] kind line → ⊥
+word_widths : (kind : Fault) (line : ℕ) → Contains width_kinds kind → line < 3 → HasStatementFault wide_word [] kind line → ⊥
 word_widths kind line known low h = clear_of wide_word [] width_kinds (λ n. nat_lt n 3) refl kind line known (lt-ltb line 3 low) h
 
 -- a fault of widths that comes before the first of line 3 stands above it
@@ -41,7 +41,7 @@ above_3 f.Target line same (inr (equal, inr (here, lower))) = absurd (omega arit
 above_3 f.KindRefuses line same (inr (equal, inr (here, lower))) = absurd (omega arith)
 above_3 _ line same (inr (equal, inr (here, lower))) = absurd (omega arith)
 
-word_first : (kind : Fault) (line : ℕ) → IsBefore kind line f.Range 3 → HasLineFault wide_word [] kind line → ⊥
+word_first : (kind : Fault) (line : ℕ) → IsBefore kind line f.Range 3 → HasStatementFault wide_word [] kind line → ⊥
 word_first f.Unknown line before h = word_names f.Unknown line (0, lit< tt, refl) h
 word_first f.Twice line before h = word_names f.Twice line (1, lit< tt, refl) h
 word_first f.NoKind line before h = word_names f.NoKind line (2, lit< tt, refl) h
@@ -55,12 +55,12 @@ word_first f.Target line before h = word_widths f.Target line (5, lit< tt, refl)
 word_first f.KindRefuses line before h = word_widths f.KindRefuses line (6, lit< tt, refl) (above_3 f.KindRefuses line refl before) h
 word_first _ line before h = both_ways false refl h.holds
 
-word_least : (kind : Fault) (line : ℕ) → MeetsFault wide_word [] kind line → IsBefore kind line f.Range 3 → ⊥
+word_least : (kind : Fault) (line : ℕ) → MeetsMeaningFault wide_word [] kind line → IsBefore kind line f.Range 3 → ⊥
 word_least kind line (inl h) before = word_first kind line before h
 word_least kind line (inr h) before = not_before_earlier kind line f.Range 3 (design_phase (design_of wide_word []) kind line h) before
 
 pub returns-clause-word : goal.returns-clause-word
-returns-clause-word c = found_from_least (MeetsFault wide_word []) _ (record {
+returns-clause-word c = found_from_least (MeetsMeaningFault wide_word []) _ (record {
   phase = refl;
   holds = inl (record {
     before = record { line = 1; statement = s.Stages 2 } ∷ record { line = 2; statement = s.Address 4 } ∷ [];
@@ -81,12 +81,12 @@ many_slots_first f.ChainLoop line before h = none_closes 8 (λ n. 0) (design_of 
 many_slots_first f.UnstableOperand line before h = stable_operands 8 (λ n. true) (design_of many_slots []) refl line refl h
 many_slots_first _ line before h = search (rules, both_ways)
 
-many_slots_least : (kind : Fault) (line : ℕ) → MeetsFault many_slots [] kind line → IsBefore kind line f.TooManySlots 4 → ⊥
+many_slots_least : (kind : Fault) (line : ℕ) → MeetsMeaningFault many_slots [] kind line → IsBefore kind line f.TooManySlots 4 → ⊥
 many_slots_least kind line (inl h) before = no_line_fault many_slots [] refl kind line h
 many_slots_least kind line (inr h) before = many_slots_first kind line before h
 
 pub returns-clause-slots : goal.returns-clause-slots
-returns-clause-slots c = found_from_least (MeetsFault many_slots []) _ (record { phase = refl; holds = inr refl; least = many_slots_least })
+returns-clause-slots c = found_from_least (MeetsMeaningFault many_slots []) _ (record { phase = refl; holds = inr refl; least = many_slots_least })
 
 -- the line of the only one that is faulty
 at_line : (own line : ℕ) → ((own == line) || false) ≡ true → own ≡ line
@@ -105,12 +105,12 @@ narrow_field_first f.ChainLoop line before h = none_closes 8 (λ n. 0) (design_o
 narrow_field_first f.UnstableOperand line before h = stable_operands 8 (λ n. true) (design_of narrow_field []) refl line refl h
 narrow_field_first _ line before h = search (rules, both_ways)
 
-narrow_field_least : (kind : Fault) (line : ℕ) → MeetsFault narrow_field [] kind line → IsBefore kind line f.FormatSum 5 → ⊥
+narrow_field_least : (kind : Fault) (line : ℕ) → MeetsMeaningFault narrow_field [] kind line → IsBefore kind line f.FormatSum 5 → ⊥
 narrow_field_least kind line (inl h) before = no_line_fault narrow_field [] refl kind line h
 narrow_field_least kind line (inr h) before = narrow_field_first kind line before h
 
 pub returns-clause-sum : goal.returns-clause-sum
-returns-clause-sum c = found_from_least (MeetsFault narrow_field []) _ (record { phase = refl; holds = inr refl; least = narrow_field_least })
+returns-clause-sum c = found_from_least (MeetsMeaningFault narrow_field []) _ (record { phase = refl; holds = inr refl; least = narrow_field_least })
 
 abbrev wide_value : List Numbered
 wide_value = smallest_but 8 0 8 256 []
@@ -122,12 +122,12 @@ wide_value_first f.ChainLoop line before h = none_closes 8 (λ n. 0) (design_of 
 wide_value_first f.UnstableOperand line before h = stable_operands 8 (λ n. true) (design_of wide_value []) refl line refl h
 wide_value_first _ line before h = search (rules, both_ways)
 
-wide_value_least : (kind : Fault) (line : ℕ) → MeetsFault wide_value [] kind line → IsBefore kind line f.FieldValue 6 → ⊥
+wide_value_least : (kind : Fault) (line : ℕ) → MeetsMeaningFault wide_value [] kind line → IsBefore kind line f.FieldValue 6 → ⊥
 wide_value_least kind line (inl h) before = no_line_fault wide_value [] refl kind line h
 wide_value_least kind line (inr h) before = wide_value_first kind line before h
 
 pub returns-clause-value : goal.returns-clause-value
-returns-clause-value c = found_from_least (MeetsFault wide_value []) _ (record { phase = refl; holds = inr refl; least = wide_value_least })
+returns-clause-value c = found_from_least (MeetsMeaningFault wide_value []) _ (record { phase = refl; holds = inr refl; least = wide_value_least })
 
 abbrev full_nop : List Numbered
 full_nop = smallest_but 8 0 8 0 (record { line = 7; statement = s.Const 1 (codes "x") 8 1 } ∷ [])
@@ -139,9 +139,9 @@ full_nop_first f.ChainLoop line before h = none_closes 8 (λ n. 0) (design_of fu
 full_nop_first f.UnstableOperand line before h = stable_operands 8 (λ n. true) (design_of full_nop []) refl line refl h
 full_nop_first _ line before h = search (rules, both_ways)
 
-full_nop_least : (kind : Fault) (line : ℕ) → MeetsFault full_nop [] kind line → IsBefore kind line f.NopNotEmpty 6 → ⊥
+full_nop_least : (kind : Fault) (line : ℕ) → MeetsMeaningFault full_nop [] kind line → IsBefore kind line f.NopNotEmpty 6 → ⊥
 full_nop_least kind line (inl h) before = no_line_fault full_nop [] refl kind line h
 full_nop_least kind line (inr h) before = full_nop_first kind line before h
 
 pub returns-clause-line_of_nop : goal.returns-clause-line_of_nop
-returns-clause-line_of_nop c = found_from_least (MeetsFault full_nop []) _ (record { phase = refl; holds = inr refl; least = full_nop_least })
+returns-clause-line_of_nop c = found_from_least (MeetsMeaningFault full_nop []) _ (record { phase = refl; holds = inr refl; least = full_nop_least })

@@ -10,14 +10,14 @@ use Rattle.ap_desc.specs.declared.design.Arg.{Arg}
 use Rattle.ap_desc.specs.declared.design.Design.{Design}
 use Rattle.ap_desc.specs.declared.design.Instr.{Instr}
 use Rattle.ap_desc.specs.declared.design.Micro.{Micro}
-use Rattle.ap_model.specs.declared.state.Done.{Done}
+use Rattle.ap_model.specs.declared.state.StageEffect.{StageEffect}
 use Rattle.ap_model.specs.declared.state.Flight.{Flight}
 use Rattle.ap_model.specs.declared.state.InputRead.{InputRead}
 use Rattle.ap_model.specs.declared.storage.PortWrite.{PortWrite}
 use Rattle.ap_model.specs.declared.storage.Storages.{Storages}
 use Rattle.ap_model.specs.Runnable.{IsRunnable}
-use Rattle.ap_model.specs.Fire.{Sight, arg_value, bits_of_arg, fire, instr_done, instr_of, lines_done, lines_in, locals_after, ordered, read_of, target_of, where_guard, write_of}
-use Rattle.ap_model.specs.Fitting.{DoneFits, FlightFits, IsGood, LocalsFit, LocalsStand, PortsFit, SightFits, StoragesFit, WordStands, WritesFit, port_width}
+use Rattle.ap_model.specs.Fire.{Sight, arg_value, bits_of_arg, fire, instr_effect, instr_of, lines_effect, lines_in, locals_after, ordered, read_of, target_of, where_guard, write_of}
+use Rattle.ap_model.specs.Fitting.{EffectFits, FlightFits, IsGood, LocalsFit, LocalsStand, PortsFit, SightFits, StoragesFit, WordStands, WritesFit, port_width}
 use Rattle.ap_model.specs.Ports.{is_same_port, write_ports}
 use Rattle.ap_model.proofs.PlainWidths.{args_fit, faultless, not_false, or_false}
 
@@ -28,12 +28,12 @@ few_parts sight fits =
     (leb-true _ _ (and_parts _ _ within.regs).0, leb-true _ _ (and_parts _ _ within.files).0, leb-true _ _ (and_parts _ _ within.mems).0)
 
 -- the parts make the whole
-pub lines_done_is : (sight : Sight) (locals : List ℕ) (lines : List Micro) (after : List ℕ) (reads : List InputRead) (target : Option ℕ) (writes : List PortWrite)
+pub lines_effect_is : (sight : Sight) (locals : List ℕ) (lines : List Micro) (after : List ℕ) (reads : List InputRead) (target : Option ℕ) (writes : List PortWrite)
     → after ≡ locals_after sight locals lines → reads ≡ filter_map (read_of sight.input) lines
     → target ≡ slice_get (filter_map (λ (m : Micro). target_of (arg_value sight after) m.act) lines) 0
     → writes ≡ ordered sight.design (filter_map (λ (m : Micro). write_of (arg_value sight after) m.act) lines)
-    → ◌≡◌ {A = Done} (record { locals = after; reads = reads; target = target; writes = writes }) (lines_done sight locals lines)
-lines_done_is sight locals lines after reads target writes l r t w =
+    → ◌≡◌ {A = StageEffect} (record { locals = after; reads = reads; target = target; writes = writes }) (lines_effect sight locals lines)
+lines_effect_is sight locals lines after reads target writes l r t w =
     let goes = t ∙ ap (λ xs. slice_get (filter_map (λ (m : Micro). target_of (arg_value sight xs) m.act) lines) 0) l in
     let writing = w ∙ ap (λ xs. ordered sight.design (filter_map (λ (m : Micro). write_of (arg_value sight xs) m.act) lines)) l in
     λ i. record { locals = l i; reads = r i; target = goes i; writes = writing i }
@@ -110,9 +110,9 @@ line_target_fits sight locals fits locals_fit (act.Jump t) typed =
 line_target_fits sight locals fits locals_fit _ typed = tt
 
 -- what the lines of a stage do fits
-pub lines_done_fits : (sight : Sight) (stage : ℕ) (locals : List ℕ) → SightFits sight → IsGood sight.design sight.instr → LocalsFit sight.instr.locals (lines_done sight locals (lines_in stage sight.instr)).locals
-    → IfSome (lines_done sight locals (lines_in stage sight.instr)).target (λ t. t < 2 ^ sight.design.address) × WritesFit sight.design (lines_done sight locals (lines_in stage sight.instr)).writes
-lines_done_fits sight stage locals fits good locals_fit =
+pub lines_effect_fits : (sight : Sight) (stage : ℕ) (locals : List ℕ) → SightFits sight → IsGood sight.design sight.instr → LocalsFit sight.instr.locals (lines_effect sight locals (lines_in stage sight.instr)).locals
+    → IfSome (lines_effect sight locals (lines_in stage sight.instr)).target (λ t. t < 2 ^ sight.design.address) × WritesFit sight.design (lines_effect sight locals (lines_in stage sight.instr)).writes
+lines_effect_fits sight stage locals fits good locals_fit =
     let after = locals_after sight locals (lines_in stage sight.instr) in
     let typed = each_filter (λ (m : Micro). IsTrue (has_widths sight.design (bits_of_arg sight) m.act)) (λ (m : Micro). m.stage == stage) sight.instr.micros (each_line (λ (m : Micro). has_widths sight.design (bits_of_arg sight) m.act) sight.instr.micros good.typed) in
     let targets = each_filter_map (λ (m : Micro). IsTrue (has_widths sight.design (bits_of_arg sight) m.act)) (λ t. t < 2 ^ sight.design.address) (λ (m : Micro). target_of (arg_value sight after) m.act)
@@ -140,21 +140,21 @@ none_stands : (design : Design) (word stage : ℕ) (locals : List ℕ) → instr
 none_stands design word stage locals at other e = cc
 
 -- what a flight with an instruction does
-pub fired_some : (design : Design) (cards : List Card) (instr : Instr) (stage : ℕ) (flight : Flight) (storages : Storages) (ports : List ℕ) (done : Done)
+pub fired_some : (design : Design) (cards : List Card) (instr : Instr) (stage : ℕ) (flight : Flight) (storages : Storages) (ports : List ℕ) (effect : StageEffect)
     → IsRunnable design cards → StoragesFit design storages → PortsFit design ports → FlightFits design stage flight → Some instr ≡ instr_of design flight.word → IsGood design instr
-    → done ≡ lines_done (record { design = design; cards = cards; instr = instr; word = flight.word; place = flight.place; storages = storages; input = λ line input. slice_index ports input }) flight.locals (lines_in stage instr)
-    → LocalsStand design instr (stage + 1) done.locals
-    → (done ≡ fire design cards stage flight.place flight.word flight.locals storages (λ line input. slice_index ports input)) × DoneFits design flight.word stage done
+    → effect ≡ lines_effect (record { design = design; cards = cards; instr = instr; word = flight.word; place = flight.place; storages = storages; input = λ line input. slice_index ports input }) flight.locals (lines_in stage instr)
+    → LocalsStand design instr (stage + 1) effect.locals
+    → (effect ≡ fire design cards stage flight.place flight.word flight.locals storages (λ line input. slice_index ports input)) × EffectFits design flight.word stage effect
 unfolding fire
-fired_some design cards instr stage flight storages ports done fits s p f at good value stand =
+fired_some design cards instr stage flight storages ports effect fits s p f at good value stand =
     let input : ℕ → ℕ → ℕ = λ line input. slice_index ports input in
     let sight : Sight = record { design = design; cards = cards; instr = instr; word = flight.word; place = flight.place; storages = storages; input = input } in
-    let parts = lines_done_fits sight stage flight.locals (sight_fits design cards instr stage flight storages ports fits s p f) good (subst (λ (d : Done). LocalsFit instr.locals d.locals) value stand.fit) in (
-      value ∙ ap (instr_done design cards stage flight.place flight.word flight.locals storages input) at,
+    let parts = lines_effect_fits sight stage flight.locals (sight_fits design cards instr stage flight storages ports fits s p f) good (subst (λ (d : StageEffect). LocalsFit instr.locals d.locals) value stand.fit) in (
+      value ∙ ap (instr_effect design cards stage flight.place flight.word flight.locals storages input) at,
       record {
-        locals = one_stands design flight.word (stage + 1) done.locals instr (sym at) stand;
-        target = subst (λ (d : Done). IfSome d.target (λ t. t < 2 ^ design.address)) (sym value) parts.0;
-        writes = subst (λ (d : Done). WritesFit design d.writes) (sym value) parts.1;
+        locals = one_stands design flight.word (stage + 1) effect.locals instr (sym at) stand;
+        target = subst (λ (d : StageEffect). IfSome d.target (λ t. t < 2 ^ design.address)) (sym value) parts.0;
+        writes = subst (λ (d : StageEffect). WritesFit design d.writes) (sym value) parts.1;
       },
     )
 
@@ -162,10 +162,10 @@ fired_some design cards instr stage flight storages ports done fits s p f at goo
 pub fired_none : (design : Design) (cards : List Card) (stage : ℕ) (flight : Flight) (storages : Storages) (ports : List ℕ) (locals : List ℕ)
     → None ≡ instr_of design flight.word → locals ≡ flight.locals
     → ((record { locals = locals; reads = []; target = None; writes = [] }) ≡ fire design cards stage flight.place flight.word flight.locals storages (λ line input. slice_index ports input))
-    × DoneFits design flight.word stage (record { locals = locals; reads = []; target = None; writes = [] })
+    × EffectFits design flight.word stage (record { locals = locals; reads = []; target = None; writes = [] })
 unfolding fire
 fired_none design cards stage flight storages ports locals at same =
     let input : ℕ → ℕ → ℕ = λ line input. slice_index ports input in (
-      (λ i. record { locals = same i; reads = []; target = None; writes = [] }) ∙ ap (instr_done design cards stage flight.place flight.word flight.locals storages input) at,
+      (λ i. record { locals = same i; reads = []; target = None; writes = [] }) ∙ ap (instr_effect design cards stage flight.place flight.word flight.locals storages input) at,
       record { locals = none_stands design flight.word (stage + 1) locals (sym at); target = tt; writes = tt },
     )

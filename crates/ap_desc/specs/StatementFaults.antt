@@ -31,7 +31,7 @@ pub record IsLineOf (statements : List Numbered) (line : ℕ) (before : List Num
   pub numbered : n.line ≡ line
 
 -- a fault of names or widths holds at the line
-pub record HasLineFault (statements : List Numbered) (cards : List Card) (kind : Fault) (line : ℕ) : Type 0 where
+pub record HasStatementFault (statements : List Numbered) (cards : List Card) (kind : Fault) (line : ℕ) : Type 0 where
   pub before : List Numbered
   pub n : Numbered
   pub place : IsLineOf statements line before n
