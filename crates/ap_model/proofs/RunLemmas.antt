@@ -13,8 +13,8 @@ use Rattle.ap_model.specs.Ports.{file_groups, file_ports, is_used, is_used_in, m
 use Rattle.ap_model.specs.declared.storage.WritePort.TheVariants as port
 use Rattle.ap_model.specs.Cycles.{CycleControl, cycle_entries}
 use Rattle.ap_model.specs.ShownRows.{control_row, group_writes}
-use Rattle.ap_model.specs.declared.row.Row.{Row}
-use Rattle.ap_model.specs.declared.row.Write.{Write}
+use Rattle.ap_image.specs.declared.row.Row.{Row}
+use Rattle.ap_image.specs.declared.row.Write.{Write}
 use Rattle.ap_model.specs.declared.state.Entry.{Entry}
 use Rattle.ap_model.specs.declared.state.State.{State}
 use Rattle.ap_model.specs.declared.storage.PortWrite.{PortWrite}

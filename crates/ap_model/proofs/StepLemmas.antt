@@ -10,7 +10,7 @@ use Rattle.ap_image.specs.declared.image.Image.{Image}
 use Rattle.ap_image.specs.declared.trace.Trace.{Trace}
 use Rattle.ap_image.specs.declared.trace.TraceLine.{TraceLine}
 use Rattle.ap_model.specs.declared.plain.scene.Scene.{Scene}
-use Rattle.ap_model.specs.declared.row.Row.{Row}
+use Rattle.ap_image.specs.declared.row.Row.{Row}
 use Rattle.ap_model.specs.declared.state.StageEffect.{StageEffect}
 use Rattle.ap_model.specs.declared.state.Flight.{Flight}
 use Rattle.ap_model.specs.declared.state.State.{State}

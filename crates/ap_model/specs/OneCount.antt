@@ -7,7 +7,7 @@ use Rattle.ap_desc.specs.declared.design.Design.{Design}
 use Rattle.ap_image.specs.declared.image.Image.{Image}
 use Rattle.ap_image.specs.declared.trace.Trace.{Trace}
 use Rattle.ap_image.specs.declared.trace.TraceLine.{TraceLine}
-use Rattle.ap_model.specs.declared.row.Row.{Row}
+use Rattle.ap_image.specs.declared.row.Row.{Row}
 use Rattle.ap_model.specs.declared.state.Flight.{Flight}
 use Rattle.ap_model.specs.declared.state.State.{State}
 use Rattle.ap_model.specs.Cycles.{CycleControl, after_control, flight_at, flight_effect, inputs_at, over}

@@ -6,8 +6,8 @@ use Rattle.ap_desc.specs.declared.design.Design.{Design}
 use Rattle.ap_image.specs.declared.image.Image.{Image}
 use Rattle.ap_image.specs.declared.trace.Trace.{Trace}
 use Rattle.ap_image.specs.declared.trace.TraceLine.{TraceLine}
-use Rattle.ap_model.specs.declared.row.Row.{Row}
-use Rattle.ap_model.specs.declared.row.Write.{Write}
+use Rattle.ap_image.specs.declared.row.Row.{Row}
+use Rattle.ap_image.specs.declared.row.Write.{Write}
 use Rattle.ap_model.specs.declared.state.Entry.{Entry}
 use Rattle.ap_model.specs.declared.state.State.{State}
 use Rattle.ap_model.specs.declared.storage.PortWrite.{PortWrite}

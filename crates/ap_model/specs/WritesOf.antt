@@ -2,8 +2,8 @@
 use Rattle.std.specs.Prelude.{ℕ, ◌==◌, ◌&&◌, if◌then◌else◌, Bool, false, List, map, filter_map, Option, Some, None, option_map, slice_get, unwrap_or}
 use Rattle.std.specs.List.{flat_map}
 use Rattle.ap_desc.specs.declared.design.Design.{Design}
-use Rattle.ap_model.specs.declared.row.Row.{Row}
-use Rattle.ap_model.specs.declared.row.Write.{Write}
+use Rattle.ap_image.specs.declared.row.Row.{Row}
+use Rattle.ap_image.specs.declared.row.Write.{Write}
 use Rattle.ap_model.specs.declared.state.Entry.{Entry}
 use Rattle.ap_model.specs.declared.storage.PortWrite.{PortWrite}
 use Rattle.ap_model.specs.declared.storage.Storage.{Storage}

@@ -7,12 +7,10 @@
 
 pub mod laws;
 pub mod plain;
-pub mod row;
 pub mod sequence;
 pub mod state;
 pub mod storage;
 
-pub use row::{Row, Write};
 pub use sequence::{Pending, Progress};
 pub use state::{Entry, Flight, InputRead, Pass, Sample, StageEffect, State};
 pub use storage::{PortWrite, Storage, Storages, WritePort};

@@ -1,22 +1,11 @@
 -- The row that one cycle of a netlist shows at its outputs.
-use Rattle.std.specs.Prelude.{ℕ, ◌+◌, ◌==◌, ◌++◌, List, [], ◌∷◌, length, codes, Option, Some, None, Bool, if◌then◌else◌}
+use Rattle.std.specs.Prelude.{ℕ, ◌+◌, ◌==◌, ◌++◌, List, [], ◌∷◌, length, codes, Option, Some, None, if◌then◌else◌}
 use Rattle.ap_net.specs.declared.net.FlatNet.{FlatNet}
 use Rattle.ap_net.specs.Flat.{Flat, value_named}
+use Rattle.ap_image.specs.declared.row.Row.{Row}
+use Rattle.ap_image.specs.declared.row.Write.{Write}
 use Rattle.ap_image.specs.declared.shape.MemShape.{MemShape}
 use Rattle.ap_net.specs.Outside.{Outside, FilePort, Group, group_name, mem_name}
-
--- a write that a row shows: the number of its group, the memories numbered after the write groups; the index or address, if
--- it has one; the value
-pub record Write : Type 0 where
-  pub group : ℕ
-  pub index : Option ℕ
-  pub value : ℕ
-
--- what one cycle shows
-pub record Row : Type 0 where
-  pub stall : Bool
-  pub kill : Bool
-  pub writes : List Write
 
 abbrev pub index_of : List FlatNet → List ℕ → Group → Option FilePort → Option ℕ
 index_of nets v g None = None

@@ -9,7 +9,7 @@ use Rattle.ap_desc.specs.declared.description.Numbered.{Numbered}
 use Rattle.ap_desc.specs.declared.statement.Statement.TheVariants as s
 use Rattle.ap_desc.specs.declared.statement.Word.TheVariants.{Named}
 use Rattle.ap_image.specs.declared.image.Image.{Image}
-use Rattle.ap_net.specs.Rows.{Row}
+use Rattle.ap_image.specs.declared.row.Row.{Row}
 use Rattle.ap_top.specs.declared.form.Form.{Form}
 use Rattle.ap_top.specs.Additions.{Operation}
 use Rattle.ap_top.specs.Machine.{row}

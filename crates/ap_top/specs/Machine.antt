@@ -4,7 +4,8 @@
 use Rattle.std.specs.Prelude.{ℕ, zero, suc, ◌+◌, ◌%◌, ◌^◌, ◌==◌, if◌then◌else◌, List, [], ◌∷◌, Option, Some, None, false, slice_index}
 use Rattle.ap_image.specs.declared.image.Image.{Image}
 use Rattle.ap_image.specs.declared.trace.Trace.{Trace}
-use Rattle.ap_net.specs.Rows.{Row, Write}
+use Rattle.ap_image.specs.declared.row.Row.{Row}
+use Rattle.ap_image.specs.declared.row.Write.{Write}
 use Rattle.ap_top.specs.declared.form.Form.{Form}
 use Rattle.ap_top.specs.Additions.{Operation, result_of}
 

@@ -20,12 +20,11 @@ use super::lists::{copied, listed};
 use super::ports::{is_same_port, row_ports};
 use super::scene::{Scene, is_held};
 use super::storages::copied_lists;
-use crate::row::{Row, Write};
 use crate::state::{Flight, State};
 use crate::storage::{PortWrite, Storages, WritePort};
 use ap_bits::{Card, Items, NoMemory};
 use ap_desc::design::Design;
-use ap_image::{Image, Trace, TraceLine};
+use ap_image::{Image, Row, Trace, TraceLine, Write};
 use std::alloc::{AllocError, Global};
 
 /// The values of the registers at the start.

@@ -8,7 +8,7 @@ use Rattle.ap_model.specs.States.{start, start_storages}
 use Rattle.ap_model.specs.Stored.{with_writes}
 use Rattle.std.specs.Prelude.{ℕ, List, [], ◌∷◌}
 use Rattle.ap_model.specs.Examples.{run, cell}
-use Rattle.ap_model.specs.declared.row.Row.{Row}
+use Rattle.ap_image.specs.declared.row.Row.{Row}
 use Rattle.ap_model.proofs.Worked.{sum}
 use Rattle.ap_model.proofs.rows.additions.Goals as goal
 

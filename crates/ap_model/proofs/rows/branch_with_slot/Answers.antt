@@ -8,7 +8,7 @@ use Rattle.ap_model.specs.States.{start, start_storages}
 use Rattle.ap_model.specs.Stored.{with_writes}
 use Rattle.std.specs.Prelude.{◌≡◌, ◌/◌, ◌%◌, ◌^◌, ◌==◌, if◌then◌else◌, false, filter_map, slice_get, Option, Some, None, ℕ, List, [], ◌∷◌}
 use Rattle.ap_model.specs.Examples.{example_cards, processor, branch_code, no_trace, run, kill, cell}
-use Rattle.ap_model.specs.declared.row.Row.{Row}
+use Rattle.ap_image.specs.declared.row.Row.{Row}
 use Rattle.ap_model.specs.declared.state.State.{State}
 use Rattle.ap_model.proofs.Worked.{equal, sum}
 use Rattle.ap_model.proofs.rows.branch_with_slot.Goals as goal

@@ -7,7 +7,7 @@ use Rattle.ap_model.specs.States.{start, start_storages}
 use Rattle.ap_model.specs.Stored.{with_writes}
 use Rattle.std.specs.Prelude.{ℕ, List, [], ◌∷◌, ◌++◌, replicate}
 use Rattle.ap_model.specs.Examples.{run, stall, cell}
-use Rattle.ap_model.specs.declared.row.Row.{Row}
+use Rattle.ap_image.specs.declared.row.Row.{Row}
 use Rattle.ap_model.proofs.Worked.{sum, product}
 use Rattle.ap_model.proofs.rows.multiplication_and_addition.Goals as goal
 
