@@ -6,7 +6,7 @@ use Rattle.std.proofs.lemmas.Bool.Decides.{Decides-eqb}
 use Rattle.ap_net.specs.declared.net.FlatNet.{FlatNet}
 use Rattle.ap_net.specs.declared.net.Next.{Next}
 use Rattle.ap_net.specs.Wiring.{ClockedOnce}
-use Rattle.ap_net.specs.Flat.{NamesDiffer, is_named, names_net, named_value, register_among, NamesAreFound, RegistersAreFound}
+use Rattle.ap_net.specs.Flat.{NamesDiffer, is_named, names_net, value_in_part, register_among, NamesAreFound, RegistersAreFound}
 use Rattle.ap_net.proofs.Lists.{All-at, some_same}
 
 -- the test tells the net of this part and name
@@ -37,9 +37,9 @@ names_are_found [] h v long n net at = cc
 names_are_found (x ∷ nets) h [] long n net at = absurd (omega arith)
 names_are_found (x ∷ nets) h (y ∷ v) long zero net at =
     let same : x ≡ net = some_same at in
-    found (is_named net.part net.name x) y (named_value net.part nets v net.name) (named_is net.part net.name x (ap (λ (z : FlatNet). z.part) same) (ap (λ (z : FlatNet). z.name) same))
+    found (is_named net.part net.name x) y (value_in_part net.part nets v net.name) (named_is net.part net.name x (ap (λ (z : FlatNet). z.part) same) (ap (λ (z : FlatNet). z.name) same))
 names_are_found (x ∷ nets) h (y ∷ v) long (suc n) net at =
-    passed (is_named net.part net.name x) y (named_value net.part nets v net.name)
+    passed (is_named net.part net.name x) y (value_in_part net.part nets v net.name)
     (λ t. let tells = is_named_tells net.part net.name x t in let clash : 0 ≡ suc n = h zero (suc n) x net refl at tells.0 tells.1 in absurd (omega arith))
     ∙ names_are_found nets (NamesDiffer-tail x nets h) v (omega arith) n net at
 

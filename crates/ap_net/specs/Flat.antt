@@ -152,14 +152,14 @@ abbrev pub is_named : ℕ → List ℕ → FlatNet → Bool
 is_named part name net = net.part == part && bytes_eq net.name name
 
 -- the value of the first net of this name in a part
-abbrev pub named_value : ℕ → List FlatNet → List ℕ → List ℕ → ℕ
-named_value part [] v name = 0
-named_value part (net ∷ nets) [] name = 0
-named_value part (net ∷ nets) (x ∷ v) name = if is_named part name net then x else named_value part nets v name
+abbrev pub value_in_part : ℕ → List FlatNet → List ℕ → List ℕ → ℕ
+value_in_part part [] v name = 0
+value_in_part part (net ∷ nets) [] name = 0
+value_in_part part (net ∷ nets) (x ∷ v) name = if is_named part name net then x else value_in_part part nets v name
 
 -- in top
 abbrev pub value_named : List FlatNet → List ℕ → List ℕ → ℕ
-value_named nets v name = named_value 0 nets v name
+value_named nets v name = value_in_part 0 nets v name
 
 -- whether a number is that of the net of this name in this part
 abbrev pub names_net : ℕ → List ℕ → Option FlatNet → Bool
@@ -203,7 +203,7 @@ pub record AreClocked (f : Flat) : Type 0 where
 -- in a solution each net's number is found by its part and its name
 abbrev pub NamesAreFound : Type 0
 NamesAreFound = (nets : List FlatNet) → NamesDiffer nets → (v : List ℕ) → length v ≡ length nets
-    → (n : ℕ) (net : FlatNet) → slice_get nets n ≡ Some net → named_value net.part nets v net.name ≡ slice_index v n
+    → (n : ℕ) (net : FlatNet) → slice_get nets n ≡ Some net → value_in_part net.part nets v net.name ≡ slice_index v n
 
 -- and what a register holds by those of the register
 abbrev pub RegistersAreFound : Type 0

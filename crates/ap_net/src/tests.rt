@@ -1,7 +1,7 @@
 ghost use Rattle.std.specs.Prelude.{◌≡◌, ◌∷◌, ◌≤◌, [], codes, slice_index};
 ghost use Rattle.ap_net.specs.Cells.{CellFits, two_value, cell_value};
 ghost use Rattle.ap_net.specs.Examples.{inverter, over_inverter, inverter_opened, inverter_text};
-ghost use Rattle.ap_net.specs.Flat.{opened, named_value, register_in, reset_in};
+ghost use Rattle.ap_net.specs.Flat.{opened, value_in_part, register_in, reset_in};
 ghost use Rattle.ap_net.specs.Text.{netlist_text};
 
 use crate::NoMemory;
@@ -194,7 +194,7 @@ fn writes_each_cell(rt: HostRuntime) -> Result<(), Fail> {
 /// A netlist with an instance, opened: the instance's nets follow those of `top`, and its ports are joined to their nets.
 fn opens_an_instance()
     ensures opened { opened (inverter ∷ over_inverter ∷ []) ≡ inverter_opened }
-    ensures input { named_value 1 inverter_opened.nets (5 ∷ 250 ∷ 250 ∷ 5 ∷ 250 ∷ 2 ∷ []) (codes "a") ≡ 5 }
+    ensures input { value_in_part 1 inverter_opened.nets (5 ∷ 250 ∷ 250 ∷ 5 ∷ 250 ∷ 2 ∷ []) (codes "a") ≡ 5 }
     ensures register { register_in 1 inverter_opened (2 ∷ []) (codes "q") ≡ 2 }
     ensures reset { reset_in inverter_opened 5 ≡ 2 }
 {}
