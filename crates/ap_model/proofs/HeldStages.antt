@@ -1,5 +1,5 @@
 -- What is known of held stages.
-use Rattle.std.proofs.Common.{◌≡◌, ℕ, zero, suc, ◌||◌, Bool, true, false, List, [], ◌∷◌, slice_index_or, refl, sym, ◌∙◌}
+use Rattle.std.proofs.Common.{◌≡◌, ℕ, zero, suc, Bool, true, false, List, [], ◌∷◌, slice_index_or, refl}
 use Rattle.std.specs.List.{list_any}
 use Rattle.ap_desc.specs.declared.design.Design.{Design}
 use Rattle.ap_model.specs.HeldStages.{HoldsFromZero}
