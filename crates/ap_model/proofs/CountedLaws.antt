@@ -17,7 +17,7 @@ use Rattle.ap_model.specs.Cycles.{CycleControl, after_control, control_of, cycle
 use Rattle.ap_model.specs.OneCount.{Counted, as_state, counted_cycle, counted_over, counted_row_of, free_control, greatest_need, is_memory_used, is_stalled, waiting, IsSameMachine}
 use Rattle.ap_model.specs.ShownRows.{control_row, cycle_row, group_writes, row}
 use Rattle.ap_model.specs.Ports.{row_ports}
-use Rattle.ap_model.specs.Stalls.{busy_from, has_memory_line, need}
+use Rattle.ap_model.specs.Stalls.{busy_from, has_memory_line, is_held_stage, need}
 use Rattle.ap_model.specs.States.{start}
 use Rattle.ap_model.specs.Stored.{with_writes}
 
@@ -95,7 +95,7 @@ same_taken design cards inputs held state (Some flight) = refl
 
 same_control : (design : Design) (cards : List Card) (inputs : TraceLine) (counted : Counted)
     → control_of design cards inputs (as_state counted) ≡ control_by (is_stalled design inputs counted) (free_control design cards inputs counted.state).taken
-unfolding control_of
+unfolding control_of is_held_stage
 same_control design cards inputs counted =
     let busy = busy_some design inputs.wait counted.held 1 counted.state.flights in
     let transfer : option_and_then (λ f. (flight_effect design cards inputs (as_state counted) design.branch f).target) (flight_at (as_state counted) design.branch) ≡ (free_control design cards inputs counted.state).taken =

@@ -1,5 +1,6 @@
 pub mod CountedLaws
 pub mod EffectLemmas
+pub mod HeldStages
 pub mod MachineFits
 pub mod PlainWidths
 pub mod PortLists

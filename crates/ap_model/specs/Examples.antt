@@ -15,12 +15,16 @@ use Rattle.ap_desc.specs.declared.design.Format.{Format}
 use Rattle.ap_desc.specs.declared.design.Field.{Field}
 use Rattle.ap_desc.specs.declared.design.Instr.{Instr}
 use Rattle.ap_desc.specs.declared.design.Micro.{Micro}
+use Rattle.ap_desc.specs.declared.design.Reg.{Reg}
 use Rattle.ap_image.specs.declared.image.Image.{Image}
 use Rattle.ap_image.specs.declared.trace.Trace.{Trace}
 use Rattle.ap_image.specs.declared.row.Row.{Row}
 use Rattle.ap_model.specs.declared.state.Entry.{Entry}
 use Rattle.ap_model.specs.declared.state.Pass.{Pass}
+use Rattle.ap_model.specs.declared.state.Sample.{Sample}
 use Rattle.ap_model.specs.declared.storage.WritePort.TheVariants as port
+use Rattle.ap_model.specs.Sequence.{sequential}
+use Rattle.ap_model.specs.ShownRows.{rows_of}
 use Rattle.ap_desc.specs.declared.design.Act.{Act}
 use Rattle.ap_desc.specs.declared.design.Act.TheVariants as act
 use Rattle.ap_desc.specs.declared.design.Arg.{Arg}
@@ -325,13 +329,33 @@ branch_code = code_of (0x5008 ∷ 0x2201 ∷ 0x2402 ∷ 0 ∷ 0 ∷ 0 ∷ 0 ∷ 
 abbrev pub jump_code : Image
 jump_code = code_of (0x6e08 ∷ 0x8200 ∷ 0x8400 ∷ 0 ∷ 0 ∷ 0 ∷ 0 ∷ 0 ∷ 0x8600 ∷ [])
 
+-- 5 to cell 1 in stage 3, 9 to the same cell through the second port in stage 2, and then the sum of that cell with itself
+abbrev pub two_ports_code : Image
+two_ports_code = code_of (0x2205 ∷ 0xb209 ∷ 0x0 ∷ 0x1448 ∷ [])
+
+-- one input read, to cell 1
+abbrev pub input_code : Image
+input_code = code_of (0x8200 ∷ [])
+
 -- no line: all inputs are 0
 abbrev pub no_trace : Trace
 no_trace = record { lines = [] }
 
+-- the rows of the processor on these words without data, where all inputs are 0
+abbrev pub rows_of_code : List ℕ → ℕ → List Row
+rows_of_code words count = rows_of processor example_cards (code_of words) no_trace count
+
+-- the writes of the first instructions, one at a time
+abbrev pub log_of_code : List ℕ → ℕ → List Entry
+log_of_code words count = (sequential processor example_cards (code_of words) [] count).log
+
 -- three lines: 5, 6 and 7 at the input port
 abbrev pub inputs_567 : Trace
 inputs_567 = record { lines = record { wait = false; ports = 5 ∷ [] } ∷ record { wait = false; ports = 6 ∷ [] } ∷ record { wait = false; ports = 7 ∷ [] } ∷ [] }
+
+-- what the input read of an instruction took, at line 74
+abbrev pub sampled : ℕ → ℕ → Sample
+sampled number value = record { number = number; line = 74; value = value }
 
 -- rows that show nothing but these: a cycle without a write, a stalled one, one in which a transfer is taken, and one that writes
 -- cells of the file through its port in stage 3
@@ -357,3 +381,43 @@ logged number index value = record { number = number; stage = 3; write = record 
 
 abbrev pub pass : ℕ → ℕ → Pass
 pass number stage = record { number = number; stage = stage }
+
+-- The smallest processor that shows a write: two stages, the format op:1 v:7, the instructions NOP (op=0 v=0) and SET (op=1), which
+-- writes v to the register R in stage 1.
+abbrev pub set_format : Format
+set_format = record { name = codes "F"; line = 5; fields = field (codes "op") 1 7 ∷ field (codes "v") 7 0 ∷ [] }
+
+abbrev pub set_register : Reg
+set_register = record { name = codes "R"; width = 7; reset = 0 }
+
+abbrev pub set_nop : Instr
+set_nop = record { name = codes "NOP"; line = 6; format = 0; fixed = Some 0 ∷ Some 0 ∷ []; fixed_mask = 0xff; fixed_value = 0; locals = []; micros = [] }
+
+abbrev pub set_instr : Instr
+set_instr = record {
+  name = codes "SET";
+  line = 8;
+  format = 0;
+  fixed = Some 1 ∷ None ∷ [];
+  fixed_mask = 0x80;
+  fixed_value = 0x80;
+  locals = [];
+  micros = line 9 1 (act.WriteReg 0 (arg.Field 1) None) ∷ [];
+}
+
+abbrev pub setter : Design
+setter = record {
+  stages = 2;
+  address = 4;
+  word = 8;
+  branch = 1;
+  slots = 0;
+  transfer_line = 3;
+  regs = set_register ∷ [];
+  files = [];
+  mems = [];
+  inputs = [];
+  units = [];
+  formats = set_format ∷ [];
+  instrs = set_nop ∷ set_instr ∷ [];
+}

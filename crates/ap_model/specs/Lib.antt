@@ -3,6 +3,7 @@ pub mod DesignShape
 pub mod Examples
 pub mod Fire
 pub mod Fitting
+pub mod HeldStages
 pub mod Landings
 pub mod OneCount
 pub mod PlainViews

@@ -48,6 +48,7 @@ busy_from design wait stage [] = []
 busy_from design wait stage (flight ∷ flights) = is_busy design wait stage flight ∷ busy_from design wait (stage + 1) flights
 
 -- A stage is held: all stages from 0 on are, where some stage is busy. The list says of each stage from 1 on whether it is busy.
--- This is the one place that says for which stages a busy stage holds the pipeline.
-abbrev pub is_held_stage : Design → List Bool → ℕ → Bool
+-- This is the one place that says which stages a busy stage holds. Proofs know it by HoldsFromZero; only the law of the one count
+-- and worked rows look into it.
+unfoldable pub is_held_stage : Design → List Bool → ℕ → Bool
 is_held_stage design busy stage = list_any (λ b. b) busy

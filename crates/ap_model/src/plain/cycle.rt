@@ -2,10 +2,10 @@
 ghost use Rattle.std.specs.Prelude.{◌≡◌, ◌++◌, ◌+◌, ◌≤◌, ◌<◌, ◌^◌, [], Some, IfOk, IfSome, if◌then◌else◌, filter, fold, is_some, length, map, max, nat_lt, option_copied};
 ghost use Rattle.ap_model.specs.Runnable.{IsRunnable};
 ghost use Rattle.ap_image.specs.FitsShape.{ImageFitsShape};
-ghost use Rattle.ap_model.specs.Cycles.{after_control, control_of, cycle, cycle_entries, cycle_flights, cycle_passes, cycle_samples, entering, flight_at, kept, next_number, next_pc, taken_transfer, unkilled_numbers};
+ghost use Rattle.ap_model.specs.Cycles.{flight_at, kept, next_pc, taken_transfer};
 ghost use Rattle.ap_model.specs.DesignShape.{shape_of};
 ghost use Rattle.ap_model.specs.Fitting.{CountsWithin, EntriesFit, FlightFits, FlightsFit, PortsFit, StateFits, StoragesFit, WaitsWithin};
-ghost use Rattle.ap_model.specs.Scenes.{SceneFits, control_of_scene};
+ghost use Rattle.ap_model.specs.Scenes.{SceneFits, StageFits, control_of_scene, entries_of_scene, flights_after_scene, number_after_scene, numbers_of_scene, passes_of_scene, samples_of_scene, scene_entering, state_after_scene};
 ghost use Rattle.ap_model.specs.Stalls.{busy_from};
 ghost use Rattle.ap_model.specs.Stored.{with_writes};
 ghost use Rattle.ap_model.specs.declared.state.Entry.{Entry};
@@ -37,7 +37,8 @@ pub(crate) fn busy_stages(
 ) -> Result<Vec<bool>, NoMemory>
     requires room { length state.now.flights < 50 }
     requires waits { WaitsWithin (2 ^ 63) state.now.flights }
-    ensures { IfOk result (λ v. v.items ≡ busy_from design.now inputs.now.wait 1 state.now.flights) }
+    ensures { IfOk result (λ v. v.items
+        ≡ busy_from design.now inputs.now.wait 1 state.now.flights) }
 {
     let mut busy = Vec::new(alloc);
     add_busy(design, inputs.wait, 1, state.flights.as_slice(), &mut busy)?;
@@ -69,7 +70,8 @@ pub(crate) fn taken_transfer(
     requires ports { PortsFit design.now inputs.now.ports }
     requires state { StateFits design.now state.now }
     requires busy { busy.now ≡ busy_from design.now inputs.now.wait 1 state.now.flights }
-    ensures value { IfOk result (λ t. t ≡ taken_transfer design.now cards.now inputs.now state.now) }
+    ensures value { IfOk result (λ t. t
+        ≡ taken_transfer design.now cards.now inputs.now state.now) }
     ensures fits { IfOk result (λ t. IfSome t (λ target. target < 2 ^ design.now.address)) }
 {
     if is_held_stage(design, busy, design.branch) {
@@ -86,7 +88,7 @@ pub(crate) fn taken_transfer(
 
 /// What enters stage 1.
 fn entering(alloc: Global, scene: &Scene, image: &Image) -> Option<Flight>
-    ensures { result ≡ entering scene.now.design.now image.now scene.now.state.now (control_of_scene scene.now) }
+    ensures { result ≡ scene_entering scene.now image.now }
 {
     if is_held(scene, 0) || is_killed(scene, 0) {
         return None;
@@ -104,7 +106,8 @@ fn entering(alloc: Global, scene: &Scene, image: &Image) -> Option<Flight>
 /// The pc after the cycle.
 fn next_pc(scene: &Scene) -> u64
     requires { scene.now.state.now.pc < 2 ^ 63 }
-    ensures { result ≡ next_pc scene.now.design.now scene.now.state.now (control_of_scene scene.now) }
+    ensures { result
+        ≡ next_pc scene.now.design.now scene.now.state.now (control_of_scene scene.now) }
 {
     if is_held(scene, 0) {
         return scene.state.pc;
@@ -118,7 +121,7 @@ fn next_pc(scene: &Scene) -> u64
 /// The numbers of all that aren't killed.
 fn unkilled_numbers(alloc: Global, scene: &Scene) -> Result<Items<u64>, NoMemory>
     requires { length scene.now.state.now.flights < 50 }
-    ensures { IfOk result (λ list. list ≡ unkilled_numbers scene.now.design.now scene.now.state.now (control_of_scene scene.now)) }
+    ensures { IfOk result (λ list. list ≡ numbers_of_scene scene.now) }
 {
     let mut numbers = Items::new(alloc);
     add_numbers(scene, 1, scene.state.flights.as_slice(), &mut numbers)?;
@@ -140,7 +143,7 @@ fn greatest(numbers: &[u64]) -> u64
 fn next_number(alloc: Global, scene: &Scene) -> Result<u64, NoMemory>
     requires room { length scene.now.state.now.flights < 50 }
     requires counts { CountsWithin (2 ^ 62) scene.now.state.now }
-    ensures { IfOk result (λ n. n ≡ next_number scene.now.design.now scene.now.state.now (control_of_scene scene.now)) }
+    ensures { IfOk result (λ n. n ≡ number_after_scene scene.now) }
 {
     if scene.taken.is_some() {
         let numbers = unkilled_numbers(alloc, scene)?;
@@ -164,7 +167,8 @@ fn joined<T: Copy + Drop>(alloc: Global, first: &[T], second: &[T]) -> Result<Ve
 
 /// The samples of lower numbers.
 fn samples_below(alloc: Global, samples: &[Sample], next: u64) -> Result<Vec<Sample>, AllocError>
-    ensures { IfOk result (λ v. v.items ≡ filter (λ (s : Sample). nat_lt s.number next) samples.now) }
+    ensures { IfOk result (λ v. v.items
+        ≡ filter (λ (s : Sample). nat_lt s.number next) samples.now) }
 {
     let kept = samples.iter().filter(|s| s.number < next);
     kept.copied().collect(alloc)
@@ -185,7 +189,8 @@ fn kept_samples(
     next: u64,
     samples: &[Sample],
 ) -> Result<Items<Sample>, NoMemory>
-    ensures { IfOk result (λ list. list ≡ kept (λ (s : Sample). s.number) (control_of_scene scene.now) next samples.now) }
+    ensures { IfOk result (λ list. list
+        ≡ kept (λ (s : Sample). s.number) (control_of_scene scene.now) next samples.now) }
 {
     if scene.taken.is_some() {
         let below = samples_below(alloc, samples, next)?;
@@ -204,7 +209,8 @@ fn kept_passes(
     next: u64,
     passes: &[Pass],
 ) -> Result<Items<Pass>, NoMemory>
-    ensures { IfOk result (λ list. list ≡ kept (λ (p : Pass). p.number) (control_of_scene scene.now) next passes.now) }
+    ensures { IfOk result (λ list. list
+        ≡ kept (λ (p : Pass). p.number) (control_of_scene scene.now) next passes.now) }
 {
     if scene.taken.is_some() {
         let below = passes_below(alloc, passes, next)?;
@@ -222,7 +228,7 @@ pub(crate) fn cycle_entries(alloc: Global, scene: &Scene) -> Result<Items<Entry>
     requires scene { SceneFits scene.now }
     requires room { length scene.now.state.now.flights < 50 }
     requires flights { FlightsFit scene.now.design.now 1 scene.now.state.now.flights }
-    ensures value { IfOk result (λ list. list ≡ cycle_entries scene.now.design.now scene.now.cards.now scene.now.inputs.now scene.now.state.now (control_of_scene scene.now)) }
+    ensures value { IfOk result (λ list. list ≡ entries_of_scene scene.now) }
     ensures fits { IfOk result (λ list. EntriesFit scene.now.design.now list) }
 {
     let mut entries = Items::new(alloc);
@@ -242,7 +248,7 @@ fn cycle_samples(alloc: Global, scene: &Scene) -> Result<Items<Sample>, NoMemory
     requires scene { SceneFits scene.now }
     requires room { length scene.now.state.now.flights < 50 }
     requires flights { FlightsFit scene.now.design.now 1 scene.now.state.now.flights }
-    ensures { IfOk result (λ list. list ≡ cycle_samples scene.now.design.now scene.now.cards.now scene.now.inputs.now scene.now.state.now (control_of_scene scene.now)) }
+    ensures { IfOk result (λ list. list ≡ samples_of_scene scene.now) }
 {
     let mut samples = Items::new(alloc);
     add_samples(
@@ -259,7 +265,7 @@ fn cycle_samples(alloc: Global, scene: &Scene) -> Result<Items<Sample>, NoMemory
 #[tactic(auto, unfolding(crate::specs::Cycles::cycle_passes))]
 fn cycle_passes(alloc: Global, scene: &Scene) -> Result<Items<Pass>, NoMemory>
     requires { length scene.now.state.now.flights < 50 }
-    ensures { IfOk result (λ list. list ≡ cycle_passes scene.now.design.now scene.now.state.now (control_of_scene scene.now)) }
+    ensures { IfOk result (λ list. list ≡ passes_of_scene scene.now) }
 {
     let mut passes = Items::new(alloc);
     add_passes(scene, 1, scene.state.flights.as_slice(), &mut passes)?;
@@ -277,8 +283,8 @@ fn cycle_flights(
     requires room { length scene.now.state.now.flights < 50 }
     requires flights { FlightsFit scene.now.design.now 1 scene.now.state.now.flights }
     requires waits { WaitsWithin (2 ^ 63) scene.now.state.now.flights }
-    requires coming { IfSome (entering scene.now.design.now image.now scene.now.state.now (control_of_scene scene.now)) (FlightFits scene.now.design.now 1) }
-    ensures value { IfOk result (λ list. list ≡ cycle_flights scene.now.design.now scene.now.cards.now image.now scene.now.inputs.now scene.now.state.now (control_of_scene scene.now)) }
+    requires coming { StageFits scene.now 1 (scene_entering scene.now image.now) }
+    ensures value { IfOk result (λ list. list ≡ flights_after_scene scene.now image.now) }
     ensures fits { IfOk result (λ list. FlightsFit scene.now.design.now 1 list) }
 {
     let coming = entering(alloc, scene, image);
@@ -303,7 +309,8 @@ pub(crate) fn writes_of(alloc: Global, entries: &[Entry]) -> Result<Vec<PortWrit
 
 /// The storages after the cycle.
 fn after_writes(alloc: Global, storages: &Storages, entries: &[Entry]) -> Result<Storages, NoMemory>
-    ensures { IfOk result (λ s. s ≡ with_writes storages.now (map (λ (e : Entry). e.write) entries.now)) }
+    ensures { IfOk result (λ s. s
+        ≡ with_writes storages.now (map (λ (e : Entry). e.write) entries.now)) }
 {
     let writes = writes_of(alloc, entries)?;
     let after = with_writes(alloc, storages, &writes)?;
@@ -317,8 +324,8 @@ pub(crate) fn after_control(alloc: Global, scene: &Scene, image: &Image) -> Resu
     requires state { StateFits scene.now.design.now scene.now.state.now }
     requires room { length scene.now.state.now.flights < 50 }
     requires counts { CountsWithin (2 ^ 62) scene.now.state.now }
-    requires coming { IfSome (entering scene.now.design.now image.now scene.now.state.now (control_of_scene scene.now)) (FlightFits scene.now.design.now 1) }
-    ensures value { IfOk result (λ s. s ≡ after_control scene.now.design.now scene.now.cards.now image.now scene.now.inputs.now scene.now.state.now (control_of_scene scene.now)) }
+    requires coming { StageFits scene.now 1 (scene_entering scene.now image.now) }
+    ensures value { IfOk result (λ s. s ≡ state_after_scene scene.now image.now) }
     ensures flights { IfOk result (λ s. FlightsFit scene.now.design.now 1 s.flights) }
     ensures storages { IfOk result (λ s. StoragesFit scene.now.design.now s.storages) }
 {

@@ -5,12 +5,12 @@ ghost use Rattle.ap_desc.specs.declared.design.File.{File};
 ghost use Rattle.ap_desc.specs.declared.design.InPort.{InPort};
 ghost use Rattle.ap_desc.specs.declared.design.Reg.{Reg};
 ghost use Rattle.ap_image.specs.FitsShape.{ImageFitsShape, TraceFitsShape};
-ghost use Rattle.ap_model.specs.Cycles.{control_of, cycle, cycle_entries, inputs_at};
+ghost use Rattle.ap_model.specs.Cycles.{cycle, inputs_at};
 ghost use Rattle.ap_model.specs.DesignShape.{shape_of};
 ghost use Rattle.ap_model.specs.Fitting.{CountsWithin, FlightsFit, PortsFit, StateFits, StoragesFit};
 ghost use Rattle.ap_model.specs.Ports.{is_same_port};
-ghost use Rattle.ap_model.specs.Scenes.{SceneFits, control_of_scene};
-ghost use Rattle.ap_model.specs.ShownRows.{control_row, cycle_row, group_writes, rows_of, shown_index, shown_write};
+ghost use Rattle.ap_model.specs.Scenes.{SceneFits, row_of_scene};
+ghost use Rattle.ap_model.specs.ShownRows.{cycle_row, group_writes, rows_of, shown_write};
 ghost use Rattle.ap_model.specs.Stalls.{busy_from};
 ghost use Rattle.ap_model.specs.States.{start, start_storages};
 ghost use Rattle.ap_model.specs.declared.storage.PortWrite.{PortWrite};
@@ -46,7 +46,8 @@ fn zeros(alloc: Global, count: u32) -> Result<Items<u64>, NoMemory>
 
 /// The cells of the files at the start.
 fn cleared(alloc: Global, design: &Design) -> Result<Items<Items<u64>>, NoMemory>
-    ensures { IfOk result (λ list. list ≡ map (λ (f : File). replicate f.cells 0) design.now.files) }
+    ensures { IfOk result (λ list. list
+        ≡ map (λ (f : File). replicate f.cells 0) design.now.files) }
 {
     let mut files = Items::new(alloc);
     for file in design.files.as_slice() {
@@ -98,7 +99,8 @@ fn start(alloc: Global, design: &Design, image: &Image) -> Result<State, NoMemor
 
 /// Zeros for the input ports.
 fn idle_ports(alloc: Global, design: &Design) -> Result<Vec<u64>, AllocError>
-    ensures { IfOk result (λ v. v.items ≡ map (λ width. 0) (map (λ (p : InPort). p.width) design.now.inputs)) }
+    ensures { IfOk result (λ v. v.items
+        ≡ map (λ width. 0) (map (λ (p : InPort). p.width) design.now.inputs)) }
 {
     let inputs = design.inputs.as_slice().iter();
     inputs.map(|p| p.width).map(|_| 0).collect(alloc)
@@ -153,7 +155,8 @@ fn shown_through(
     port: WritePort,
     writes: &[PortWrite],
 ) -> Result<Vec<Write>, AllocError>
-    ensures { IfOk result (λ v. v.items ≡ map (shown_write group) (filter (λ (w : PortWrite). is_same_port port w.port) writes.now)) }
+    ensures { IfOk result (λ v. v.items
+        ≡ map (shown_write group) (filter (λ (w : PortWrite). is_same_port port w.port) writes.now)) }
 {
     let through = writes.iter().filter(|w| is_same_port(port, w.port));
     through.map(|w| shown_write(group, *w)).collect(alloc)
@@ -196,7 +199,7 @@ fn control_row(alloc: Global, scene: &Scene) -> Result<Row, NoMemory>
     requires scene { SceneFits scene.now }
     requires state { StateFits scene.now.design.now scene.now.state.now }
     requires room { length scene.now.state.now.flights < 50 }
-    ensures { IfOk result (λ r. r ≡ control_row scene.now.design.now scene.now.cards.now scene.now.inputs.now scene.now.state.now (control_of_scene scene.now)) }
+    ensures { IfOk result (λ r. r ≡ row_of_scene scene.now) }
 {
     let entries = cycle_entries(alloc, scene)?;
     let writes = writes_of(alloc, entries.as_slice())?;
@@ -233,7 +236,8 @@ fn shown_cycle(
     requires state { StateFits design.now state.now }
     requires counts { CountsWithin (2 ^ 62) state.now }
     ensures row { IfOk result (λ s. s.row ≡ cycle_row design.now cards.now inputs.now state.now) }
-    ensures state { IfOk result (λ s. s.state ≡ cycle design.now cards.now image.now inputs.now state.now) }
+    ensures state { IfOk result (λ s. s.state
+        ≡ cycle design.now cards.now image.now inputs.now state.now) }
     ensures fits { IfOk result (λ s. StateFits design.now s.state) }
 {
     let busy = busy_stages(alloc, design, inputs, state)?;

@@ -1,9 +1,9 @@
 //! What the flights do in one cycle.
 ghost use Rattle.std.specs.Prelude.{◌≡◌, ◌++◌, ◌+◌, ◌<◌, ◌^◌, [], IfOk, IfSome, OnOk, length, if◌then◌else◌, map, option_map};
 ghost use Rattle.std.specs.Option.{option_map_or};
-ghost use Rattle.ap_model.specs.Cycles.{effect_in, entry_of, sample_of, flight_entries, flight_passes, flight_samples, flights_from, from_last, is_killed, leaving, staying, unkilled_number};
-ghost use Rattle.ap_model.specs.Fitting.{EffectFits, EntriesFit, FlightFits, FlightsFit, WaitsWithin};
-ghost use Rattle.ap_model.specs.Scenes.{SceneFits, control_of_scene};
+ghost use Rattle.ap_model.specs.Cycles.{entry_of, from_last, is_killed, sample_of, staying};
+ghost use Rattle.ap_model.specs.Fitting.{EffectFits, FlightFits, WaitsWithin};
+ghost use Rattle.ap_model.specs.Scenes.{SceneFits, StageFits, StagesFit, WritesHereFit, control_of_scene, scene_effect, scene_entries, scene_flights, scene_leaving, scene_number, scene_passes, scene_samples};
 
 use super::lists::copied;
 use super::stage::fire;
@@ -51,8 +51,9 @@ fn effect_in(
 ) -> Result<Option<StageEffect>, NoMemory>
     requires scene { SceneFits scene.now }
     requires flight { FlightFits scene.now.design.now stage flight.now }
-    ensures value { IfOk result (λ d. d ≡ effect_in scene.now.design.now scene.now.cards.now scene.now.inputs.now scene.now.state.now (control_of_scene scene.now) stage flight.now) }
-    ensures fits { IfOk result (λ d. IfSome d (EffectFits scene.now.design.now flight.now.word stage)) }
+    ensures value { IfOk result (λ d. d ≡ scene_effect scene.now stage flight.now) }
+    ensures fits { IfOk result (λ d. IfSome d
+        (EffectFits scene.now.design.now flight.now.word stage)) }
 {
     if is_held(scene, stage) || is_killed(scene, stage) {
         return Ok(None);
@@ -113,9 +114,11 @@ fn add_flight_entries(
     out: &mut Items<Entry>,
 ) -> Result<(), NoMemory>
     requires scene { SceneFits scene.now }
-    requires flight { IfSome flight.now (FlightFits scene.now.design.now stage) }
-    ensures value { OnOk result (out.new ≡ out.old ++ option_map_or (flight_entries scene.now.design.now scene.now.cards.now scene.now.inputs.now scene.now.state.now (control_of_scene scene.now) stage) flight.now []) }
-    ensures fits { OnOk result (EntriesFit scene.now.design.now (option_map_or (flight_entries scene.now.design.now scene.now.cards.now scene.now.inputs.now scene.now.state.now (control_of_scene scene.now) stage) flight.now [])) }
+    requires flight { StageFits scene.now stage flight.now }
+    ensures value { OnOk result (out.new
+        ≡ out.old ++ option_map_or (scene_entries scene.now stage) flight.now []) }
+    ensures fits { OnOk result (WritesHereFit scene.now
+        (option_map_or (scene_entries scene.now stage) flight.now [])) }
 {
     let Some(flight) = flight else {
         return Ok(());
@@ -135,8 +138,9 @@ fn add_flight_samples(
     out: &mut Items<Sample>,
 ) -> Result<(), NoMemory>
     requires scene { SceneFits scene.now }
-    requires flight { IfSome flight.now (FlightFits scene.now.design.now stage) }
-    ensures { OnOk result (out.new ≡ out.old ++ option_map_or (flight_samples scene.now.design.now scene.now.cards.now scene.now.inputs.now scene.now.state.now (control_of_scene scene.now) stage) flight.now []) }
+    requires flight { StageFits scene.now stage flight.now }
+    ensures { OnOk result (out.new
+        ≡ out.old ++ option_map_or (scene_samples scene.now stage) flight.now []) }
 {
     let Some(flight) = flight else {
         return Ok(());
@@ -154,7 +158,8 @@ fn add_flight_passes(
     flight: &Option<Flight>,
     out: &mut Items<Pass>,
 ) -> Result<(), NoMemory>
-    ensures { OnOk result (out.new ≡ out.old ++ option_map_or (flight_passes scene.now.design.now (control_of_scene scene.now) stage) flight.now []) }
+    ensures { OnOk result (out.new
+        ≡ out.old ++ option_map_or (scene_passes scene.now stage) flight.now []) }
 {
     let Some(flight) = flight else {
         return Ok(());
@@ -175,7 +180,8 @@ fn add_flight_number(
     flight: &Option<Flight>,
     out: &mut Items<u64>,
 ) -> Result<(), NoMemory>
-    ensures { OnOk result (out.new ≡ out.old ++ option_map_or (unkilled_number scene.now.design.now (control_of_scene scene.now) stage) flight.now []) }
+    ensures { OnOk result (out.new
+        ≡ out.old ++ option_map_or (scene_number scene.now stage) flight.now []) }
 {
     let Some(flight) = flight else {
         return Ok(());
@@ -196,9 +202,11 @@ pub(crate) fn add_entries(
 ) -> Result<(), NoMemory>
     requires scene { SceneFits scene.now }
     requires room { stage + length flights.now < 100 }
-    requires flights { FlightsFit scene.now.design.now stage flights.now }
-    ensures value { OnOk result (out.new ≡ out.old ++ from_last (flight_entries scene.now.design.now scene.now.cards.now scene.now.inputs.now scene.now.state.now (control_of_scene scene.now)) stage flights.now) }
-    ensures fits { OnOk result (EntriesFit scene.now.design.now (from_last (flight_entries scene.now.design.now scene.now.cards.now scene.now.inputs.now scene.now.state.now (control_of_scene scene.now)) stage flights.now)) }
+    requires flights { StagesFit scene.now stage flights.now }
+    ensures value { OnOk result (out.new
+        ≡ out.old ++ from_last (scene_entries scene.now) stage flights.now) }
+    ensures fits { OnOk result (WritesHereFit scene.now
+        (from_last (scene_entries scene.now) stage flights.now)) }
 {
     match flights {
         [] => Ok(()),
@@ -220,8 +228,9 @@ pub(crate) fn add_samples(
 ) -> Result<(), NoMemory>
     requires scene { SceneFits scene.now }
     requires room { stage + length flights.now < 100 }
-    requires flights { FlightsFit scene.now.design.now stage flights.now }
-    ensures { OnOk result (out.new ≡ out.old ++ from_last (flight_samples scene.now.design.now scene.now.cards.now scene.now.inputs.now scene.now.state.now (control_of_scene scene.now)) stage flights.now) }
+    requires flights { StagesFit scene.now stage flights.now }
+    ensures { OnOk result (out.new
+        ≡ out.old ++ from_last (scene_samples scene.now) stage flights.now) }
 {
     match flights {
         [] => Ok(()),
@@ -240,7 +249,8 @@ pub(crate) fn add_passes(
     out: &mut Items<Pass>,
 ) -> Result<(), NoMemory>
     requires room { stage + length flights.now < 100 }
-    ensures { OnOk result (out.new ≡ out.old ++ from_last (flight_passes scene.now.design.now (control_of_scene scene.now)) stage flights.now) }
+    ensures { OnOk result (out.new
+        ≡ out.old ++ from_last (scene_passes scene.now) stage flights.now) }
 {
     match flights {
         [] => Ok(()),
@@ -259,7 +269,8 @@ pub(crate) fn add_numbers(
     out: &mut Items<u64>,
 ) -> Result<(), NoMemory>
     requires room { stage + length flights.now < 100 }
-    ensures { OnOk result (out.new ≡ out.old ++ from_last (unkilled_number scene.now.design.now (control_of_scene scene.now)) stage flights.now) }
+    ensures { OnOk result (out.new
+        ≡ out.old ++ from_last (scene_number scene.now) stage flights.now) }
 {
     match flights {
         [] => Ok(()),
@@ -278,9 +289,9 @@ fn leaving(
     flight: &Option<Flight>,
 ) -> Result<Option<Flight>, NoMemory>
     requires scene { SceneFits scene.now }
-    requires flight { IfSome flight.now (FlightFits scene.now.design.now stage) }
-    ensures value { IfOk result (λ l. l ≡ leaving scene.now.design.now scene.now.cards.now scene.now.inputs.now scene.now.state.now (control_of_scene scene.now) stage flight.now) }
-    ensures fits { IfOk result (λ l. IfSome l (FlightFits scene.now.design.now (stage + 1))) }
+    requires flight { StageFits scene.now stage flight.now }
+    ensures value { IfOk result (λ l. l ≡ scene_leaving scene.now stage flight.now) }
+    ensures fits { IfOk result (λ l. StageFits scene.now (stage + 1) l) }
 {
     let Some(flight) = flight else {
         return Ok(None);
@@ -342,11 +353,13 @@ pub(crate) fn add_flights(
 ) -> Result<(), NoMemory>
     requires scene { SceneFits scene.now }
     requires room { stage + length flights.now < 100 }
-    requires flights { FlightsFit scene.now.design.now stage flights.now }
+    requires flights { StagesFit scene.now stage flights.now }
     requires waits { WaitsWithin (2 ^ 63) flights.now }
-    requires coming { IfSome coming (FlightFits scene.now.design.now stage) }
-    ensures value { OnOk result (out.new ≡ out.old ++ flights_from scene.now.design.now scene.now.cards.now scene.now.inputs.now scene.now.state.now (control_of_scene scene.now) stage coming flights.now) }
-    ensures fits { OnOk result (FlightsFit scene.now.design.now stage (flights_from scene.now.design.now scene.now.cards.now scene.now.inputs.now scene.now.state.now (control_of_scene scene.now) stage coming flights.now)) }
+    requires coming { StageFits scene.now stage coming }
+    ensures value { OnOk result (out.new
+        ≡ out.old ++ scene_flights scene.now stage coming flights.now) }
+    ensures fits { OnOk result (StagesFit scene.now stage
+        (scene_flights scene.now stage coming flights.now)) }
 {
     match flights {
         [] => Ok(()),

@@ -3,9 +3,9 @@ ghost use Rattle.std.specs.Prelude.{◌≡◌, ℕ, ◌+◌, ◌^◌, ◌<◌, I
 ghost use Rattle.ap_model.specs.Runnable.{IsRunnable};
 ghost use Rattle.ap_desc.specs.declared.design.Micro.{Micro};
 ghost use Rattle.ap_desc.specs.Widths.{has_widths};
-ghost use Rattle.ap_model.specs.Fire.{arg_value, bits_of_arg, fire, input_of, instr_of, lines_effect, lines_in, locals_after, read_of, target_of, where_guard, write_of};
+ghost use Rattle.ap_model.specs.Fire.{fire, instr_of, lines_effect, locals_after, read_of, target_of, where_guard, write_of};
 ghost use Rattle.ap_model.specs.Fitting.{LocalsFit, LocalsStand, SightFits, StoragesFit, EffectFits, FlightFits, PortsFit, GoesByLine, IsGood};
-ghost use Rattle.ap_model.specs.PlainViews.{sight_of};
+ghost use Rattle.ap_model.specs.PlainViews.{HasWidths, StandIn, stage_lines, sight_of, operand_value};
 
 use super::lists::{copied, listed};
 use super::ports::ordered;
@@ -33,7 +33,7 @@ fn where_guard(
     write: PortWrite,
 ) -> Option<PortWrite>
     requires { view.now.place < 2 ^ 63 }
-    ensures { result ≡ where_guard (arg_value (sight_of view.now) locals.now) guard write }
+    ensures { result ≡ where_guard (operand_value view.now locals.now) guard write }
 {
     match guard {
         Some(g) if arg_value(view, locals, g) != 1 => None,
@@ -44,7 +44,7 @@ fn where_guard(
 /// What a line writes, if it writes.
 pub(crate) fn write_of(view: &View, locals: &[u64], act: Act) -> Option<PortWrite>
     requires { view.now.place < 2 ^ 63 }
-    ensures { result ≡ write_of (arg_value (sight_of view.now) locals.now) act }
+    ensures { result ≡ write_of (operand_value view.now locals.now) act }
 {
     match act {
         Act::WriteFile {
@@ -89,7 +89,7 @@ pub(crate) fn write_of(view: &View, locals: &[u64], act: Act) -> Option<PortWrit
 /// The target of the transfer that a line takes, if it takes one.
 pub(crate) fn target_of(view: &View, locals: &[u64], act: Act) -> Option<u64>
     requires { view.now.place < 2 ^ 63 }
-    ensures { result ≡ target_of (arg_value (sight_of view.now) locals.now) act }
+    ensures { result ≡ target_of (operand_value view.now locals.now) act }
 {
     match act {
         Act::Branch { cond, target } => {
@@ -126,8 +126,9 @@ fn go_by_line(
 ) -> Result<(), NoMemory>
     requires sight { SightFits (sight_of view.now) }
     requires locals { LocalsFit view.now.instr.now.locals locals.old }
-    requires typed { IsTrue (has_widths view.now.design.now (bits_of_arg (sight_of view.now)) micro.now.act) }
-    ensures ok { OnOk result (GoesByLine (sight_of view.now) stage micro.now locals.old locals.new) }
+    requires typed { HasWidths view.now micro.now.act }
+    ensures ok { OnOk result
+        (GoesByLine (sight_of view.now) stage micro.now locals.old locals.new) }
 {
     let value = act_value(view, locals.as_slice(), micro.act);
     if micro.stage == stage {
@@ -148,9 +149,10 @@ pub(crate) fn locals_after(
 ) -> Result<Items<u64>, NoMemory>
     requires sight { SightFits (sight_of view.now) }
     requires good { IsGood view.now.design.now view.now.instr.now }
-    requires stand { LocalsStand view.now.design.now view.now.instr.now stage before.now }
-    ensures value { IfOk result (λ after. after ≡ locals_after (sight_of view.now) before.now (lines_in stage view.now.instr.now)) }
-    ensures stand { IfOk result (λ after. LocalsStand view.now.design.now view.now.instr.now (stage + 1) after) }
+    requires stand { StandIn view.now stage before.now }
+    ensures value { IfOk result (λ after. after
+        ≡ locals_after (sight_of view.now) before.now (stage_lines view.now stage)) }
+    ensures stand { IfOk result (λ after. StandIn view.now (stage + 1) after) }
 {
     let mut locals = copied(alloc, before)?;
     for micro in view.instr.micros.as_slice() {
@@ -161,7 +163,8 @@ pub(crate) fn locals_after(
 
 /// What the input reads of a stage take.
 fn reads(alloc: Global, view: &View, stage: u32) -> Result<Vec<InputRead>, AllocError>
-    ensures { IfOk result (λ v. v.items ≡ filter_map (read_of (sight_of view.now).input) (lines_in stage view.now.instr.now)) }
+    ensures { IfOk result (λ v. v.items
+        ≡ filter_map (read_of (sight_of view.now).input) (stage_lines view.now stage)) }
 {
     let micros = view.instr.micros.as_slice().iter();
     let lines = micros.filter(|m| m.stage == stage);
@@ -171,7 +174,9 @@ fn reads(alloc: Global, view: &View, stage: u32) -> Result<Vec<InputRead>, Alloc
 /// The targets of the transfers that the lines of a stage take.
 fn targets(alloc: Global, view: &View, stage: u32, locals: &[u64]) -> Result<Vec<u64>, AllocError>
     requires { view.now.place < 2 ^ 63 }
-    ensures { IfOk result (λ v. v.items ≡ filter_map (λ (m : Micro). target_of (arg_value (sight_of view.now) locals.now) m.act) (lines_in stage view.now.instr.now)) }
+    ensures { IfOk result (λ v. v.items
+        ≡ filter_map (λ (m : Micro). target_of (operand_value view.now locals.now) m.act)
+        (stage_lines view.now stage)) }
 {
     let micros = view.instr.micros.as_slice().iter();
     let lines = micros.filter(|m| m.stage == stage);
@@ -188,7 +193,9 @@ fn writes(
     locals: &[u64],
 ) -> Result<Vec<PortWrite>, AllocError>
     requires { view.now.place < 2 ^ 63 }
-    ensures { IfOk result (λ v. v.items ≡ filter_map (λ (m : Micro). write_of (arg_value (sight_of view.now) locals.now) m.act) (lines_in stage view.now.instr.now)) }
+    ensures { IfOk result (λ v. v.items
+        ≡ filter_map (λ (m : Micro). write_of (operand_value view.now locals.now) m.act)
+        (stage_lines view.now stage)) }
 {
     let micros = view.instr.micros.as_slice().iter();
     let lines = micros.filter(|m| m.stage == stage);
@@ -207,9 +214,10 @@ fn lines_effect(
 ) -> Result<StageEffect, NoMemory>
     requires sight { SightFits (sight_of view.now) }
     requires good { IsGood view.now.design.now view.now.instr.now }
-    requires stand { LocalsStand view.now.design.now view.now.instr.now stage before.now }
-    ensures value { IfOk result (λ effect. effect ≡ lines_effect (sight_of view.now) before.now (lines_in stage view.now.instr.now)) }
-    ensures stand { IfOk result (λ effect. LocalsStand view.now.design.now view.now.instr.now (stage + 1) effect.locals) }
+    requires stand { StandIn view.now stage before.now }
+    ensures value { IfOk result (λ effect. effect
+        ≡ lines_effect (sight_of view.now) before.now (stage_lines view.now stage)) }
+    ensures stand { IfOk result (λ effect. StandIn view.now (stage + 1) effect.locals) }
 {
     let locals = locals_after(alloc, view, stage, before)?;
     let reads = listed(alloc, reads(alloc, view, stage)?)?;
@@ -239,7 +247,8 @@ pub(crate) fn fire(
     requires storages { StoragesFit design.now storages.now }
     requires ports { PortsFit design.now ports.now }
     requires flight { FlightFits design.now stage flight.now }
-    ensures value { IfOk result (λ effect. effect ≡ fire design.now cards.now stage flight.now.place flight.now.word flight.now.locals storages.now (λ line input. slice_index ports.now input)) }
+    ensures value { IfOk result (λ effect. effect ≡ fire design.now cards.now stage flight.now.place
+        flight.now.word flight.now.locals storages.now (λ line input. slice_index ports.now input)) }
     ensures fits { IfOk result (λ effect. EffectFits design.now flight.now.word stage effect) }
 {
     match instr_of(design, flight.word) {

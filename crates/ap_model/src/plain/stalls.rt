@@ -104,7 +104,8 @@ pub(crate) fn add_busy(
 ) -> Result<(), NoMemory>
     requires room { stage + length flights.now < 100 }
     requires waits { WaitsWithin (2 ^ 63) flights.now }
-    ensures { OnOk result (out.new.items ≡ out.old.items ++ busy_from design.now wait stage flights.now) }
+    ensures { OnOk result (out.new.items
+        ≡ out.old.items ++ busy_from design.now wait stage flights.now) }
 {
     match flights {
         [] => Ok(()),
@@ -116,6 +117,7 @@ pub(crate) fn add_busy(
 }
 
 /// Whether the stage is held.
+#[tactic(auto, unfolding(crate::specs::Stalls::is_held_stage))]
 pub(crate) fn is_held_stage(design: &Design, busy: &[bool], stage: u32) -> bool
     ensures { result ≡ is_held_stage design.now busy.now stage }
 {

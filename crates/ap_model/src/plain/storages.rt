@@ -1,6 +1,6 @@
 //! What a write changes.
 ghost use Rattle.std.specs.Prelude.{◌≡◌, [], IfOk, if◌then◌else◌, slice_index_or, slice_set};
-ghost use Rattle.ap_model.specs.Stored.{with_word, with_write, with_writes};
+ghost use Rattle.ap_model.specs.Stored.{with_value, with_word, with_write, with_writes};
 
 use super::lists::{copied, listed};
 use crate::storage::{PortWrite, Storages, WritePort};
@@ -102,7 +102,7 @@ pub(crate) fn copied_storages(alloc: Global, storages: &Storages) -> Result<Stor
 
 /// The storages after a write to a register.
 fn with_reg(alloc: Global, storages: &Storages, reg: u32, value: u64) -> Result<Storages, NoMemory>
-    ensures { IfOk result (λ s. s ≡ record storages.now { regs = slice_set storages.now.regs reg value }) }
+    ensures { IfOk result (λ s. s ≡ with_value storages.now (WritePort.Register reg) 0 value) }
 {
     let regs = set_value(alloc, storages.regs.as_slice(), reg as usize, value)?;
     let files = copied_lists(alloc, storages.files.as_slice())?;
@@ -118,7 +118,10 @@ fn with_cell(
     index: u64,
     value: u64,
 ) -> Result<Storages, NoMemory>
-    ensures { IfOk result (λ s. s ≡ record storages.now { files = slice_set storages.now.files file (slice_set (slice_index_or storages.now.files file []) index value) }) }
+    ensures { IfOk result (λ s. s ≡ record storages.now {
+      files = slice_set storages.now.files file
+          (slice_set (slice_index_or storages.now.files file []) index value);
+    }) }
 {
     let cells = list_at(storages.files.as_slice(), file as usize);
     let cells = set_value(alloc, cells, index as usize, value)?;
@@ -141,7 +144,7 @@ fn with_mem(
     address: u64,
     value: u64,
 ) -> Result<Storages, NoMemory>
-    ensures { IfOk result (λ s. s ≡ record storages.now { mems = slice_set storages.now.mems mem (with_word (slice_index_or storages.now.mems mem []) address value) }) }
+    ensures { IfOk result (λ s. s ≡ with_value storages.now (WritePort.Memory mem) address value) }
 {
     let words = list_at(storages.mems.as_slice(), mem as usize);
     let words = set_word(alloc, words, address as usize, value)?;

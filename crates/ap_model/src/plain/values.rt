@@ -7,7 +7,7 @@ ghost use Rattle.ap_desc.specs.declared.design.Field.{Field};
 ghost use Rattle.ap_desc.specs.Widths.{has_widths, unit_width};
 ghost use Rattle.ap_model.specs.Fire.{act_value, arg_value, bits_of_arg, fields_of, link_of, unit_value};
 ghost use Rattle.ap_model.specs.Fitting.{LocalsFit, SightFits, width_of_act};
-ghost use Rattle.ap_model.specs.PlainViews.{sight_of};
+ghost use Rattle.ap_model.specs.PlainViews.{HasWidths, operand_bits, sight_of, operand_value};
 
 use crate::storage::Storages;
 use ap_bits::{Card, Items, eval, mask, sext};
@@ -104,7 +104,8 @@ fn fields<'a>(design: &'a Design, instr: &Instr) -> &'a [Field]
 
 /// What the word gives a field, 0 where there is no such field.
 fn field_at(view: &View, i: usize) -> u64
-    ensures { result ≡ option_map_or (λ (f : Field). field_value f view.now.word) (slice_get (fields_of view.now.design.now view.now.instr.now) i) 0 }
+    ensures { result ≡ option_map_or (λ (f : Field). field_value f view.now.word)
+        (slice_get (fields_of view.now.design.now view.now.instr.now) i) 0 }
 {
     match fields(view.design, view.instr).get(i) {
         Some(field) => low_bits(above(view.word, field.low), field.width),
@@ -124,7 +125,7 @@ fn link_of(design: &Design, place: u64) -> u64
 /// The value of an operand.
 pub(crate) fn arg_value(view: &View, locals: &[u64], arg: Arg) -> u64
     requires { view.now.place < 2 ^ 63 }
-    ensures { result ≡ arg_value (sight_of view.now) locals.now arg }
+    ensures { result ≡ operand_value view.now locals.now arg }
 {
     match arg {
         Arg::Local(i) => at(locals, i as usize),
@@ -136,7 +137,7 @@ pub(crate) fn arg_value(view: &View, locals: &[u64], arg: Arg) -> u64
 
 /// The bits of an operand.
 pub(crate) fn arg_width(view: &View, arg: Arg) -> u32
-    ensures { result ≡ bits_of_arg (sight_of view.now) arg }
+    ensures { result ≡ operand_bits view.now arg }
 {
     match arg {
         Arg::Local(i) => match view.instr.locals.as_slice().get(i as usize) {
@@ -177,8 +178,9 @@ fn unit_value(view: &View, unit: u32, op: u32, a: u64, b: u64) -> u64
 fn computed(view: &View, locals: &[u64], unit: u32, op: u32, a: Arg, b: Arg) -> u64
     requires sight { SightFits (sight_of view.now) }
     requires locals { LocalsFit view.now.instr.now.locals locals.now }
-    requires typed { IsTrue (has_widths view.now.design.now (bits_of_arg (sight_of view.now)) (Act.Compute unit op a b)) }
-    ensures value { result ≡ unit_value view.now.design.now view.now.cards.now unit op (arg_value (sight_of view.now) locals.now a) (arg_value (sight_of view.now) locals.now b) }
+    requires typed { HasWidths view.now (Act.Compute unit op a b) }
+    ensures value { result ≡ unit_value view.now.design.now view.now.cards.now unit op
+        (operand_value view.now locals.now a) (operand_value view.now locals.now b) }
     ensures fits { result < 2 ^ unit_width view.now.design.now unit }
 {
     let first = arg_value(view, locals, a);
@@ -191,8 +193,9 @@ fn computed(view: &View, locals: &[u64], unit: u32, op: u32, a: Arg, b: Arg) -> 
 fn sign_extended(view: &View, locals: &[u64], width: u32, a: Arg) -> u64
     requires sight { SightFits (sight_of view.now) }
     requires locals { LocalsFit view.now.instr.now.locals locals.now }
-    requires typed { IsTrue (has_widths view.now.design.now (bits_of_arg (sight_of view.now)) (Act.Sext width a)) }
-    ensures value { result ≡ sign_extended (arg_value (sight_of view.now) locals.now a) (bits_of_arg (sight_of view.now) a) width }
+    requires typed { HasWidths view.now (Act.Sext width a) }
+    ensures value { result
+        ≡ sign_extended (operand_value view.now locals.now a) (operand_bits view.now a) width }
     ensures fits { result < 2 ^ width }
 {
     extended(arg_value(view, locals, a), arg_width(view, a), width)
@@ -202,8 +205,9 @@ fn sign_extended(view: &View, locals: &[u64], width: u32, a: Arg) -> u64
 #[tactic(auto, using(crate::proofs::PlainWidths::slice_widths, crate::proofs::PlainWidths::place_within))]
 fn sliced(view: &View, locals: &[u64], high: u32, low: u32, a: Arg) -> u64
     requires sight { SightFits (sight_of view.now) }
-    requires typed { IsTrue (has_widths view.now.design.now (bits_of_arg (sight_of view.now)) (Act.Slice high low a)) }
-    ensures value { result ≡ (arg_value (sight_of view.now) locals.now a / 2 ^ low) % 2 ^ (high - low + 1) }
+    requires typed { HasWidths view.now (Act.Slice high low a) }
+    ensures value { result
+        ≡ (operand_value view.now locals.now a / 2 ^ low) % 2 ^ (high - low + 1) }
     ensures fits { result < 2 ^ (high - low + 1) }
 {
     let width = arg_width(view, a);
@@ -216,9 +220,10 @@ fn sliced(view: &View, locals: &[u64], high: u32, low: u32, a: Arg) -> u64
 fn side_by_side(view: &View, locals: &[u64], a: Arg, b: Arg) -> u64
     requires sight { SightFits (sight_of view.now) }
     requires locals { LocalsFit view.now.instr.now.locals locals.now }
-    requires typed { IsTrue (has_widths view.now.design.now (bits_of_arg (sight_of view.now)) (Act.Cat a b)) }
-    ensures value { result ≡ arg_value (sight_of view.now) locals.now a * 2 ^ bits_of_arg (sight_of view.now) b + arg_value (sight_of view.now) locals.now b }
-    ensures fits { result < 2 ^ (bits_of_arg (sight_of view.now) a + bits_of_arg (sight_of view.now) b) }
+    requires typed { HasWidths view.now (Act.Cat a b) }
+    ensures value { result ≡ operand_value view.now locals.now a * 2 ^ operand_bits view.now b
+        + operand_value view.now locals.now b }
+    ensures fits { result < 2 ^ (operand_bits view.now a + operand_bits view.now b) }
 {
     let high = arg_value(view, locals, a);
     let low = arg_value(view, locals, b);
@@ -230,8 +235,9 @@ fn side_by_side(view: &View, locals: &[u64], a: Arg, b: Arg) -> u64
 pub(crate) fn act_value(view: &View, locals: &[u64], act: Act) -> Option<u64>
     requires sight { SightFits (sight_of view.now) }
     requires locals { LocalsFit view.now.instr.now.locals locals.now }
-    requires typed { IsTrue (has_widths view.now.design.now (bits_of_arg (sight_of view.now)) act) }
-    ensures value { (line : ℕ) → result ≡ act_value (sight_of view.now) (arg_value (sight_of view.now) locals.now) line act }
+    requires typed { HasWidths view.now act }
+    ensures value { (line : ℕ) → result
+        ≡ act_value (sight_of view.now) (operand_value view.now locals.now) line act }
     ensures fits { IfSome result (λ v. v < 2 ^ width_of_act (sight_of view.now) act) }
 {
     match act {

@@ -3,7 +3,7 @@ use Rattle.ap_model.specs.Cycles.{CycleControl, after_control, inputs_at, taken_
 use Rattle.ap_model.specs.Fire.{fire, instr_of, locals_after}
 use Rattle.ap_model.specs.Ports.{write_groups, write_ports}
 use Rattle.ap_model.specs.ShownRows.{control_row, cycle_row, row, rows_of}
-use Rattle.ap_model.specs.Stalls.{has_memory_line, need}
+use Rattle.ap_model.specs.Stalls.{has_memory_line, is_held_stage, need}
 use Rattle.ap_model.specs.States.{start, start_storages}
 use Rattle.ap_model.specs.Stored.{with_writes}
 use Rattle.std.specs.Prelude.{◌≡◌, ◌/◌, ◌%◌, ◌^◌, ◌==◌, if◌then◌else◌, false, filter_map, slice_get, Option, Some, None, ℕ, List, [], ◌∷◌}
@@ -38,7 +38,7 @@ rows_after taken =
 
 -- the condition is 1
 taken : taken_transfer processor example_cards (inputs_at processor no_trace 2) before ≡ Some 8
-unfolding rows_of row cycle_row control_row over cycle after_control control_of cycle_entries cycle_samples cycle_passes cycle_flights need has_memory_line start start_storages fire instr_of locals_after write_ports write_groups with_writes before
+unfolding rows_of row cycle_row control_row over cycle after_control control_of cycle_entries cycle_samples cycle_passes cycle_flights need has_memory_line is_held_stage start start_storages fire instr_of locals_after write_ports write_groups with_writes before
 taken =
     let target : ℕ → Option ℕ = λ bit. if (bit / 2 ^ 0) % 2 ^ 1 == 1 then Some 8 else None in
     ap (λ bit. slice_get (filter_map target (bit ∷ [])) 0) equal
@@ -48,5 +48,5 @@ rows_by : (ℕ → ℕ → ℕ) → List Row
 rows_by add = run ∷ run ∷ kill ∷ run ∷ cell 1 (add 0 1) ∷ run ∷ cell 3 (add 0 3) ∷ []
 
 pub returns : goal.returns
-unfolding rows_of row cycle_row control_row over cycle after_control control_of cycle_entries cycle_samples cycle_passes cycle_flights need has_memory_line start start_storages fire instr_of locals_after write_ports write_groups with_writes rows_by rows_after shown next after at_branch before
+unfolding rows_of row cycle_row control_row over cycle after_control control_of cycle_entries cycle_samples cycle_passes cycle_flights need has_memory_line is_held_stage start start_storages fire instr_of locals_after write_ports write_groups with_writes rows_by rows_after shown next after at_branch before
 returns c = ap rows_after taken ∙ ap rows_by (λ i a b. sum a b i)
