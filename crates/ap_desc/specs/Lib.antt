@@ -12,6 +12,7 @@ pub mod FlowExamples
 pub mod Groups
 pub mod Instructions
 pub mod Least
+pub mod Limits
 pub mod LineExamples
 pub mod StatementFaults
 pub mod Meaning

@@ -1,7 +1,8 @@
 //! Laws of reading. They do nothing: their contracts are what they say.
 ghost use Rattle.std.specs.Prelude.{◌≤◌, ℕ, List, length};
 ghost use Rattle.ap_desc.specs.Descriptions.{IsDescription};
-ghost use Rattle.ap_desc.specs.Faults.{IsWellFormed, description_limit};
+ghost use Rattle.ap_desc.specs.Faults.{IsWellFormed};
+ghost use Rattle.ap_desc.specs.Limits.{description_limit};
 ghost use Rattle.ap_desc.specs.Reading.{ReadsAs};
 ghost use Rattle.ap_desc.specs.declared.description.Numbered.{Numbered};
 

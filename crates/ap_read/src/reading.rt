@@ -2,9 +2,10 @@ ghost use Rattle.std.specs.Prelude.{◌≡◌, ◌≤◌, IfErr, IfOk, IsTrue, L
 ghost use Rattle.ap_text.specs.Spans.{AreLinesWithin, IsLineWithin, bytes_in, line_in};
 ghost use Rattle.ap_desc.specs.Beside.{EachBeside};
 ghost use Rattle.ap_desc.specs.Descriptions.{IsDescription};
-ghost use Rattle.ap_desc.specs.Faults.{IsWellFormed, description_limit};
+ghost use Rattle.ap_desc.specs.Faults.{IsWellFormed};
 ghost use Rattle.ap_desc.specs.FaultTable.{phase_of};
 ghost use Rattle.ap_desc.specs.Order.{are_in_order};
+ghost use Rattle.ap_desc.specs.Limits.{description_limit};
 ghost use Rattle.ap_desc.specs.Reading.{IsAt, ReadsAs, SpellsLine};
 ghost use Rattle.ap_desc.specs.Shown.{renumbered, shown_text};
 ghost use Rattle.ap_read.specs.ReadFaults.{IsReadFault, IsReadOrMemory};
@@ -18,12 +19,10 @@ use crate::place::Place;
 use crate::statement::statement;
 use ap_bits::{Items, NoMemory};
 use ap_desc::laws::{reading_is_unique, shown_is_read, spelling_is_unique};
+use ap_desc::limits::DESCRIPTION_LIMIT;
 use ap_desc::{DescFault, Description, Fault, Numbered, Refusal, Statement};
 use ap_text::{Line, lines};
 use std::alloc::Global;
-
-/// The most bytes that a description may have.
-pub const DESCRIPTION_LIMIT: usize = 1_048_576;
 
 /// The refusal for a fault of this kind at this line.
 fn refused(kind: Fault, line: u32) -> DescFault
