@@ -9,6 +9,7 @@ pub mod Examples
 pub mod FaultTable
 pub mod Faults
 pub mod FlowExamples
+pub mod Forms
 pub mod Groups
 pub mod Instructions
 pub mod Least
@@ -28,6 +29,7 @@ pub mod Shown
 pub mod Sound
 pub mod Spelling
 pub mod StageFaults
+pub mod TokenValues
 pub mod WidthFaults
 pub mod Widths
 pub mod WordFaults
