@@ -10,7 +10,7 @@ use Rattle.ap_text.specs.Numbers.{number_value, spelled_value}
 use Rattle.ap_desc.specs.declared.statement.Statement.{Statement}
 use Rattle.ap_desc.specs.declared.statement.Statement.TheVariants as s
 use Rattle.ap_desc.specs.declared.statement.Word.{Word}
-use Rattle.ap_desc.specs.Beside.{EachBeside}
+use Rattle.ap_bits.specs.Beside.{EachBeside}
 use Rattle.ap_desc.specs.Forms as f
 use Rattle.ap_desc.specs.Forms.{WordForm, declared_forms, source_forms, transfer_forms, form_in, word_form_in, declaration_in, read_port_in, compute_in, read_part_in, read_register_in, plain_source_in, source_in, write_register_in, signed_in, write_part_in, plain_micro_in, micro_in, statement_in}
 use Rattle.ap_desc.specs.Reserved.{is_free_name}

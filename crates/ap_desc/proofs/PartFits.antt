@@ -10,7 +10,7 @@ use Rattle.std.proofs.lemmas.Option.{same_Some}
 use Rattle.ap_text.specs.Numbers.{number_value}
 use Rattle.ap_desc.specs.declared.statement.FieldNumber.{FieldNumber}
 use Rattle.ap_desc.specs.declared.statement.Word.{Word}
-use Rattle.ap_desc.specs.Beside.{EachBeside}
+use Rattle.ap_bits.specs.Beside.{EachBeside}
 use Rattle.ap_desc.specs.Reserved.{is_free_name}
 use Rattle.ap_desc.specs.Spelling.{Token, exactly, tagged, number, operand as operand_token, Piece, Sign, Name, Number, Operand, Widths, Settings, piece_tokens, tokens_in, is_spellable, is_small, is_free_guard, are_free_fields, has_fields, guard_tokens, IsToken}
 use Rattle.ap_desc.specs.TokenValues.{Part, named, numeral, operand, widths, settings, Value, Values, part_value, only_in, some_in, last_in, values_in, beside, name_in, word_in, guard_in, cut_on, field_of, field_in, fields_in}

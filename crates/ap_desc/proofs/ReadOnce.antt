@@ -1,7 +1,7 @@
 use Rattle.std.proofs.Common.{◌≡◌, ℕ, List, [], ◌∷◌, refl, sym, ◌∙◌}
 use Rattle.ap_text.specs.Lines.{TextLine, lines_of}
 use Rattle.ap_desc.specs.declared.description.Numbered.{Numbered}
-use Rattle.ap_desc.specs.Beside.{EachBeside}
+use Rattle.ap_bits.specs.Beside.{EachBeside}
 use Rattle.ap_desc.specs.Reading.{IsAt, ReadsAs}
 use Rattle.ap_desc.proofs.FormsComplete.{spelled_once}
 

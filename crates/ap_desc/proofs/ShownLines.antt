@@ -11,7 +11,7 @@ use Rattle.ap_text.specs.Lines.{TextLine, is_allowed, is_blank, is_clean, is_com
 use Rattle.ap_desc.specs.declared.description.Numbered.{Numbered}
 use Rattle.ap_desc.specs.declared.statement.Statement.{Statement}
 use Rattle.ap_desc.specs.declared.statement.Statement.TheVariants as s
-use Rattle.ap_desc.specs.Beside.{EachBeside}
+use Rattle.ap_bits.specs.Beside.{EachBeside}
 use Rattle.ap_desc.specs.Order.{is_micro}
 use Rattle.ap_desc.specs.Reading.{SpellsLine, IsAt, ReadsAs}
 use Rattle.ap_desc.specs.Shown.{after_space, line_bytes, renumbered, shown_text, shown_token, spaced}

@@ -5,7 +5,7 @@ use Rattle.std.specs.List.{list_all}
 use Rattle.std.proofs.lemmas.Bool.{and_parts, ltb-true}
 use Rattle.ap_text.proofs.Written.{number_value-decimal}
 use Rattle.ap_desc.specs.declared.statement.Statement.{Statement}
-use Rattle.ap_desc.specs.Beside.{EachBeside}
+use Rattle.ap_bits.specs.Beside.{EachBeside}
 use Rattle.ap_desc.specs.Shown.{shown_token}
 use Rattle.ap_desc.specs.Spelling.{Token, exactly, tagged, IsToken, IsSpellable, Spells, is_small, spelling}
 use Rattle.ap_desc.proofs.PlainTokens.{fit_spelling, is_fit, is_plain, is_whole}

@@ -8,7 +8,7 @@ use Rattle.ap_desc.specs.declared.statement.Word.TheVariants.{Pc, Link, Named}
 use Rattle.ap_desc.specs.declared.statement.FieldNumber.{FieldNumber}
 use Rattle.ap_desc.specs.declared.statement.Statement.{Statement}
 use Rattle.ap_desc.specs.declared.statement.Statement.TheVariants as s
-use Rattle.ap_desc.specs.Beside.{EachBeside}
+use Rattle.ap_bits.specs.Beside.{EachBeside}
 use Rattle.ap_desc.specs.Reserved.{is_free_name}
 
 -- a token of a form: exactly these bytes, or these bytes directly followed by a number

@@ -11,7 +11,7 @@ use Rattle.ap_text.specs.Numbers.{number_value, spelled_value}
 use Rattle.ap_desc.specs.declared.statement.FieldNumber.{FieldNumber}
 use Rattle.ap_desc.specs.declared.statement.Statement.{Statement}
 use Rattle.ap_desc.specs.declared.statement.Statement.TheVariants as s
-use Rattle.ap_desc.specs.Beside.{EachBeside}
+use Rattle.ap_bits.specs.Beside.{EachBeside}
 use Rattle.ap_desc.specs.Faults.{begins, consists_of, is_missing_some, open_after}
 use Rattle.ap_desc.specs.Order.{has_section, inside_after, is_complete, is_end, is_inside, is_instr, is_nop, section}
 use Rattle.ap_desc.specs.Reading.{SpellsLine}

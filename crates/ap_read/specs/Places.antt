@@ -56,3 +56,7 @@ IsFaultAfter earlier statement None = (is_out_of_order earlier statement ≡ fal
 IsFaultAfter earlier statement (Some f.BadOrder) = IsTrue (is_out_of_order earlier statement)
 IsFaultAfter earlier statement (Some f.TooMany) = (is_out_of_order earlier statement ≡ false) × IsTrue (is_one_too_many earlier statement)
 IsFaultAfter earlier statement (Some _) = ⊥
+
+-- the fault of a statement that stands at this place, if it has one
+abbrev pub IsFaultAt : Place → Statement → Option Fault → Type 0
+IsFaultAt place statement fault = (earlier : List Statement) → IsPlaceAfter earlier place → IsFaultAfter earlier statement fault

@@ -10,7 +10,8 @@ use ap_desc::laws::spelling_is_unique;
 
 /// A text within the limit that reads as a description has no fault of form.
 pub fn descriptions_are_faultless()
-    ensures { (text : List ℕ) (statements : List Numbered) → length text ≤ description_limit → IsDescription statements → ReadsAs text statements → IsWellFormed text }
+    ensures { (text : List ℕ) (statements : List Numbered) → length text ≤ description_limit
+        → IsDescription statements → ReadsAs text statements → IsWellFormed text }
 {
     spelling_is_unique();
 }

@@ -1,8 +1,7 @@
-ghost use Rattle.std.specs.Prelude.{◌≡◌, ◌+◌, ◌<◌, ◌^◌, [], List, if◌then◌else◌};
+ghost use Rattle.std.specs.Prelude.{◌≡◌, ◌+◌, ◌<◌, ◌^◌, [], if◌then◌else◌};
 ghost use Rattle.ap_desc.specs.Order as order;
-ghost use Rattle.ap_desc.specs.declared.statement.Statement.{Statement};
 ghost use Rattle.ap_read.specs.Places as places;
-ghost use Rattle.ap_read.specs.Places.{IsFaultAfter, IsPlaceAfter};
+ghost use Rattle.ap_read.specs.Places.{IsFaultAt, IsPlaceAfter};
 
 use ap_desc::limits::{
     MAX_FIELDS, MAX_FILES, MAX_FORMATS, MAX_INPUTS, MAX_INSTRUCTIONS, MAX_MEMORIES,
@@ -86,7 +85,7 @@ impl Place {
 
     /// The fault of the statement if it stands here: its order is looked at before its number.
     pub(crate) fn fault(&self, statement: &Statement) -> Option<Fault>
-        ensures { (earlier : List Statement) → IsPlaceAfter earlier self.now → IsFaultAfter earlier statement.now result }
+        ensures { IsFaultAt self.now statement.now result }
     {
         if self.is_late(statement) || self.is_misplaced(statement) {
             return Some(Fault::BadOrder);
@@ -168,7 +167,8 @@ impl Place {
 
     fn instructions_after(self, statement: &Statement) -> usize
         requires { self.instructions + 1 < 2 ^ 64 }
-        ensures { result ≡ (if order.is_instr statement.now then self.instructions + 1 else self.instructions) }
+        ensures { result ≡ (if order.is_instr statement.now then self.instructions
+            + 1 else self.instructions) }
     {
         match statement {
             Statement::Instr { .. } => self.instructions + 1,
