@@ -1,3 +1,4 @@
+pub mod Beside
 pub mod Cards
 pub mod Names
 pub mod Operations

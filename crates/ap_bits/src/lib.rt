@@ -20,7 +20,7 @@ pub use boxed::Boxed;
 pub use card::{Card, Latency, OpCard, Widths, select_width_is_least};
 pub use items::Items;
 pub use memory::NoMemory;
-pub use name::Name;
+pub use name::{Name, is_name};
 pub use term::{BinOp, Term, UnOp};
 pub use value::{binary, eval, unary};
 pub use words::{mask, sext};

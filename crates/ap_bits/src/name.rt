@@ -1,4 +1,7 @@
-ghost use Rattle.std.specs.Prelude.{◌≡◌, ◌↔◌, IsTrue, IfOk};
+ghost use Rattle.std.specs.Prelude.{◌≡◌, IfOk, if◌then◌else◌};
+ghost use Rattle.std.specs.Char.{is_ascii_alphanumeric};
+ghost use Rattle.std.specs.List.{list_all};
+ghost use Rattle.ap_bits.specs.Names as names;
 ghost use Rattle.ap_bits.specs.Names.{IsName};
 
 use crate::NoMemory;
@@ -23,8 +26,44 @@ impl Model for Name {
     ghost invariant = { λ n. IsName (string_bytes n.text) };
 }
 
+/// Whether the first byte is a letter.
+fn starts_with_letter(bytes: &[u8]) -> bool
+    ensures { result ≡ names.starts_with_letter bytes.now }
+{
+    match bytes {
+        [first, ..] => first.is_ascii_alphabetic(),
+        [] => false,
+    }
+}
+
+/// Whether all bytes are letters or digits.
+fn is_alphanumeric(bytes: &[u8]) -> bool
+    ensures { result ≡ list_all is_ascii_alphanumeric bytes.now }
+{
+    bytes.iter().all(|byte| byte.is_ascii_alphanumeric())
+}
+
+/// Whether the bytes are a name: a letter followed by letters and digits, at most 32 bytes.
+pub fn is_name(bytes: &[u8]) -> bool
+    ensures { result ≡ names.is_name bytes.now }
+{
+    starts_with_letter(bytes) && is_alphanumeric(bytes) && bytes.len() <= 32
+}
+
 impl Name {
-    /// The name of these bytes.
+    /// The name that the bytes are, and None where they are none.
+    pub fn parse(alloc: Global, bytes: &[u8]) -> Result<Option<Name>, NoMemory>
+        ensures { IfOk result (λ name. name
+            ≡ (if names.is_name bytes.now then Some bytes.now else None)) }
+    {
+        if !is_name(bytes) {
+            return Ok(None);
+        }
+        let name = Name::new(alloc, bytes)?;
+        Ok(Some(name))
+    }
+
+    /// The name of bytes that are known to be one.
     pub fn new(alloc: Global, name: &[u8]) -> Result<Name, NoMemory>
         requires { IsName name.now }
         ensures { IfOk result (λ made. made ≡ name.now) }

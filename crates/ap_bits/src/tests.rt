@@ -127,3 +127,16 @@ fn keeps_cards(rt: HostRuntime) -> Result<(), Fail> {
     }
     Ok(())
 }
+
+/// 32 bytes are a name, 33 aren't, and a name begins with a letter.
+#[test]
+fn parses_names(rt: HostRuntime) -> Result<(), Fail> {
+    let alloc = rt.alloc();
+    let longest = Name::parse(alloc, b"a2345678901234567890123456789012")?.ok_or("a name")?;
+    assert_eq!(rt; longest.as_str().len(), 32);
+    assert!(rt; Name::parse(alloc, b"a23456789012345678901234567890123")?.is_none());
+    assert!(rt; Name::parse(alloc, b"1a")?.is_none());
+    assert!(rt; Name::parse(alloc, b"a_b")?.is_none());
+    assert!(rt; Name::parse(alloc, b"")?.is_none());
+    Ok(())
+}

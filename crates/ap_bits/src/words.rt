@@ -124,7 +124,8 @@ pub(crate) fn right_signed(w: u32, a: u64, b: u64) -> u64
     requires low { 1 ≤ w }
     requires high { w ≤ 64 }
     requires a { a < 2 ^ w }
-    ensures { result ≡ (if nat_lt b w then bits_of w (floor_of (signed w a) (2 ^ b)) else high_bits w a) }
+    ensures { result ≡ (if nat_lt b w then bits_of w
+        (floor_of (signed w a) (2 ^ b)) else high_bits w a) }
 {
     if is_negative(w, a) {
         mask(w) - right(w, mask(w) - a, b)

@@ -1,8 +1,10 @@
-use Rattle.std.proofs.Common.{◌≡◌, ℕ, ◌<◌, ◌^◌, List, [], ◌∷◌, ◌++◌, ◌&&◌, not, Bool, true, Option, Some, None, length, map, refl, arith, ◌∙◌, sym}
+-- What show writes of a statement: tokens of plain bytes, whose numbers are small.
+use Rattle.std.proofs.Common.{◌≡◌, ℕ, ◌<◌, ◌^◌, List, [], ◌∷◌, ◌++◌, ◌&&◌, not, Bool, true, Option, Some, None, length, map, refl, arith, ◌∙◌}
 use Rattle.std.specs.Prelude.{codes, nat_le, nat_lt, ◌==◌}
 use Rattle.std.specs.Fmt.{decimal}
 use Rattle.std.specs.Char.{is_ascii_alphanumeric, is_digit}
 use Rattle.std.specs.List.{list_all}
+use Rattle.std.proofs.lemmas.Bool.{and_parts}
 use Rattle.std.proofs.lemmas.List.Folds.{list_all-append}
 use Rattle.std.proofs.lemmas.Bool.Decides.{nat_tests}
 use Rattle.ap_bits.specs.Names.{is_name, starts_with_letter}
@@ -12,10 +14,11 @@ use Rattle.ap_desc.specs.declared.statement.Word.TheVariants.{Pc, Link, Named}
 use Rattle.ap_desc.specs.declared.statement.FieldNumber.{FieldNumber}
 use Rattle.ap_desc.specs.declared.statement.Statement.{Statement}
 use Rattle.ap_desc.specs.declared.statement.Statement.TheVariants as s
-use Rattle.ap_desc.specs.Reserved.{is_free_name, is_among, statement_words, micro_words, memory_words}
-use Rattle.ap_desc.specs.Spelling.{Token, exactly, tagged, operand, part_of, width_token, value_token, guard_tokens, guard_names, field_names, word_names, IsSpellable, spelling}
+use Rattle.ap_desc.specs.Reserved.{is_free_name}
+use Rattle.ap_desc.specs.Spelling.{Token, exactly, tagged, operand, part_of, width_token, value_token, guard_tokens, Piece, Sign, Name, Number, Operand, Operation, Port, Access, Widths, Settings, Guard, form, piece_tokens, tokens_in, spelling, is_spellable, is_small, is_free_word, is_free_guard, are_free_fields, has_fields, IsSpellable}
 use Rattle.ap_desc.proofs.Decimals.{decimal_are_digits}
-use Rattle.ap_desc.proofs.ShownTokens.{left, right}
+use Rattle.ap_desc.proofs.FreeNames.{free_is_name, free_letters}
+use Rattle.ap_desc.proofs.PartFits.{both}
 
 -- a printing byte that is neither a blank nor the comment sign
 abbrev pub is_plain : ℕ → Bool
@@ -25,18 +28,12 @@ is_plain b = nat_le 33 b && nat_le b 126 && not (b == 35)
 abbrev pub is_whole : List ℕ → Bool
 is_whole token = is_token token && list_all is_plain token
 
--- what of a token isn't the digits of a number is plain
-abbrev pub has_plain_text : Token → Bool
-has_plain_text (exactly bytes) = is_whole bytes
-has_plain_text (tagged tag n) = list_all is_plain tag
-
-pub both : {a b : Bool} → a ≡ true → b ≡ true → (a && b) ≡ true
-both {a} {b} p q = rw (p, q) refl
-
 -- each byte that passes one test passes the other
 pub weaker : (p q : ℕ → Bool) → ((b : ℕ) → p b ≡ true → q b ≡ true) → (bytes : List ℕ) → list_all p bytes ≡ true → list_all q bytes ≡ true
 weaker p q w [] h = refl
-weaker p q w (b ∷ bytes) h = both (w b (left (p b) (list_all p bytes) h)) (weaker p q w bytes (right (p b) (list_all p bytes) h))
+weaker p q w (b ∷ bytes) h =
+    let a = and_parts (p b) (list_all p bytes) h in
+    both (w b a.0) (weaker p q w bytes a.1)
 
 letter_is_plain : (b : ℕ) → is_ascii_alphanumeric b ≡ true → is_plain b ≡ true
 letter_is_plain b h = grind (arith, nat_tests)
@@ -54,33 +51,22 @@ letter_first : (name : List ℕ) → starts_with_letter name ≡ true → is_tok
 letter_first [] h = cc
 letter_first (b ∷ bytes) h = refl
 
-free_is_name : (name : List ℕ) → is_free_name name ≡ true → is_name name ≡ true
-free_is_name name h = left (is_name name) (not (is_among name statement_words))
-    (left (is_name name && not (is_among name statement_words)) (not (is_among name micro_words))
-    (left (is_name name && not (is_among name statement_words) && not (is_among name micro_words)) (not (is_among name memory_words)) h))
-
--- the bytes of a name are letters and digits
-pub name_letters : (name : List ℕ) → is_free_name name ≡ true → list_all is_ascii_alphanumeric name ≡ true
-name_letters name h =
-    right (starts_with_letter name) (list_all is_ascii_alphanumeric name)
-    (left (starts_with_letter name && list_all is_ascii_alphanumeric name) (nat_le (length name) 32) (free_is_name name h))
-
 name_bytes : (name : List ℕ) → is_free_name name ≡ true → list_all is_plain name ≡ true
-name_bytes name h = weaker is_ascii_alphanumeric is_plain letter_is_plain name (name_letters name h)
+name_bytes name h = weaker is_ascii_alphanumeric is_plain letter_is_plain name (free_letters name h)
 
 name_is_token : (name : List ℕ) → is_free_name name ≡ true → is_token name ≡ true
 name_is_token name h =
-    let front = left (starts_with_letter name && list_all is_ascii_alphanumeric name) (nat_le (length name) 32) (free_is_name name h) in
-    letter_first name (left (starts_with_letter name) (list_all is_ascii_alphanumeric name) front)
+    let a = and_parts (starts_with_letter name && list_all is_ascii_alphanumeric name) (nat_le (length name) 32) (free_is_name name h) in
+    letter_first name (and_parts (starts_with_letter name) (list_all is_ascii_alphanumeric name) a.0).0
 
-plain_name : (name : List ℕ) → is_free_name name ≡ true → has_plain_text (exactly name) ≡ true
+plain_name : (name : List ℕ) → is_free_name name ≡ true → is_whole name ≡ true
 plain_name name h = both (name_is_token name h) (name_bytes name h)
 
 begun_token : (xs ys : List ℕ) → is_token xs ≡ true → is_token (xs ++ ys) ≡ true
 begun_token [] ys h = cc
 begun_token (x ∷ xs) ys h = refl
 
-plain_part : (name part : List ℕ) → is_free_name name ≡ true → list_all is_plain part ≡ true → has_plain_text (part_of name part) ≡ true
+plain_part : (name part : List ℕ) → is_free_name name ≡ true → list_all is_plain part ≡ true → is_whole (name ++ codes "." ++ part) ≡ true
 plain_part name part h g = both
     (begun_token (name ++ codes ".") part (begun_token name (codes ".") (name_is_token name h)))
     (joined_plain (name ++ codes ".") part (joined_plain name (codes ".") (name_bytes name h) refl) g)
@@ -91,121 +77,73 @@ digit_below n h = grind (arith, nat_tests)
 plain_port : (port : ℕ) → nat_lt port 10 ≡ true → list_all is_plain (decimal port) ≡ true
 plain_port port h = decimal_plain port (digit_below port h)
 
-pub one_free : (name : List ℕ) → list_all is_free_name (name ∷ []) ≡ true → is_free_name name ≡ true
-one_free name h = left (is_free_name name) true h
+-- the text of the token is plain, and its number is small
+abbrev pub is_fit : Token → Bool
+is_fit (exactly bytes) = is_whole bytes
+is_fit (tagged tag n) = list_all is_plain tag && is_small n
 
-plain_word : (word : Word) → list_all is_free_name (word_names word) ≡ true → has_plain_text (operand word) ≡ true
-plain_word Pc h = refl
-plain_word Link h = refl
-plain_word (Named name) h = plain_name name (one_free name h)
+fit_word : (word : Word) → is_free_word word ≡ true → is_fit (operand word) ≡ true
+fit_word Pc h = refl
+fit_word Link h = refl
+fit_word (Named name) h = plain_name name h
 
-plain_guard : (guard : Option Word) → list_all is_free_name (guard_names guard) ≡ true → list_all has_plain_text (guard_tokens guard) ≡ true
-plain_guard None h = refl
-plain_guard (Some word) h = both (plain_word word h) refl
+fit_guard : (guard : Option Word) → is_free_guard guard ≡ true → list_all is_fit (guard_tokens guard) ≡ true
+fit_guard None h = refl
+fit_guard (Some word) h = both (fit_word word h) refl
 
-plain_widths : (fields : List FieldNumber) → list_all is_free_name (field_names fields) ≡ true → list_all has_plain_text (map width_token fields) ≡ true
-plain_widths [] h = refl
-plain_widths (f ∷ fields) h = both (joined_plain f.field (codes ":") (name_bytes f.field (left (is_free_name f.field) (list_all is_free_name (field_names fields)) h)) refl)
-    (plain_widths fields (right (is_free_name f.field) (list_all is_free_name (field_names fields)) h))
+-- the token of a field, with this mark between name and number
+fit_field : (f : FieldNumber) (mark : List ℕ) → list_all is_plain mark ≡ true → (is_free_name f.field && is_small f.number) ≡ true → is_fit (tagged (f.field ++ mark) f.number) ≡ true
+fit_field f mark plain h =
+    let a = and_parts (is_free_name f.field) (is_small f.number) h in
+    both (joined_plain f.field mark (name_bytes f.field a.0) plain) a.1
 
-plain_values : (fields : List FieldNumber) → list_all is_free_name (field_names fields) ≡ true → list_all has_plain_text (map value_token fields) ≡ true
-plain_values [] h = refl
-plain_values (f ∷ fields) h = both (joined_plain f.field (codes "=") (name_bytes f.field (left (is_free_name f.field) (list_all is_free_name (field_names fields)) h)) refl)
-    (plain_values fields (right (is_free_name f.field) (list_all is_free_name (field_names fields)) h))
+fit_widths : (fields : List FieldNumber) → are_free_fields fields ≡ true → list_all is_fit (map width_token fields) ≡ true
+fit_widths [] h = refl
+fit_widths (f ∷ fields) h =
+    let a = and_parts (is_free_name f.field && is_small f.number) (are_free_fields fields) h in
+    both (fit_field f (codes ":") refl a.0) (fit_widths fields a.1)
 
--- a first name and the others
-pub split_first : (name : List ℕ) (names : List (List ℕ)) → list_all is_free_name (name ∷ names) ≡ true → (is_free_name name ≡ true) × (list_all is_free_name names ≡ true)
-split_first name names h = (left (is_free_name name) (list_all is_free_name names) h, right (is_free_name name) (list_all is_free_name names) h)
+fit_values : (fields : List FieldNumber) → are_free_fields fields ≡ true → list_all is_fit (map value_token fields) ≡ true
+fit_values [] h = refl
+fit_values (f ∷ fields) h =
+    let a = and_parts (is_free_name f.field && is_small f.number) (are_free_fields fields) h in
+    both (fit_field f (codes "=") refl a.0) (fit_values fields a.1)
 
-pub split_joined : (xs ys : List (List ℕ)) → list_all is_free_name (xs ++ ys) ≡ true → (list_all is_free_name xs ≡ true) × (list_all is_free_name ys ≡ true)
-split_joined xs ys h =
-    let e : (list_all is_free_name xs && list_all is_free_name ys) ≡ true = sym (list_all-append is_free_name xs ys) ∙ h in
-    (left (list_all is_free_name xs) (list_all is_free_name ys) e, right (list_all is_free_name xs) (list_all is_free_name ys) e)
+-- the words and signs of the language are plain
+abbrev has_plain_sign : Piece → Bool
+has_plain_sign (Sign word) = is_whole word
+has_plain_sign (Port file letter port) = list_all is_plain letter
+has_plain_sign (Access mem word) = list_all is_plain word
+has_plain_sign _ = true
 
--- all that isn't digits in a spelling is plain
-pub plain_spelling : (statement : Statement) → IsSpellable statement → list_all has_plain_text (spelling statement) ≡ true
-plain_spelling (s.Stages count) h = refl
-plain_spelling (s.Address bits) h = refl
-plain_spelling (s.Word bits) h = refl
-plain_spelling (s.Transfer stage slots) h = refl
-plain_spelling (s.Reg name width reset) h =
-    let p0 = split_first name (([])) h.names in
-    both (plain_name name p0.0) refl
-plain_spelling (s.File name width cells reads writes) h =
-    let p0 = split_first name (([])) h.names in
-    both (plain_name name p0.0) refl
-plain_spelling (s.Mem name address width) h =
-    let p0 = split_first name (([])) h.names in
-    both (plain_name name p0.0) refl
-plain_spelling (s.In name width) h =
-    let p0 = split_first name (([])) h.names in
-    both (plain_name name p0.0) refl
-plain_spelling (s.Unit name kind width) h =
-    let p0 = split_first name (kind ∷ ([])) h.names in
-    let p1 = split_first kind (([])) p0.1 in
-    both (plain_name name p0.0) (both (plain_name kind p1.0) refl)
-plain_spelling (s.Format name fields) h =
-    let p0 = split_first name ((field_names fields)) h.names in
-    both (plain_name name p0.0) (plain_widths fields p0.1)
-plain_spelling (s.Instr name format fixed) h =
-    let p0 = split_first name (format ∷ (field_names fixed)) h.names in
-    let p1 = split_first format ((field_names fixed)) p0.1 in
-    both (plain_name name p0.0) (both (plain_name format p1.0) (plain_values fixed p1.1))
-plain_spelling (s.Compute stage to unit op a b) h =
-    let p0 = split_first to (unit ∷ op ∷ (word_names a ++ word_names b)) h.names in
-    let p1 = split_first unit (op ∷ (word_names a ++ word_names b)) p0.1 in
-    let p2 = split_first op ((word_names a ++ word_names b)) p1.1 in
-    let q = split_joined (word_names a) (word_names b) p2.1 in
-    both (plain_name to p0.0) (both (plain_part unit op p1.0 (name_bytes op p2.0)) (both (plain_word a q.0) (both (plain_word b q.1) refl)))
-plain_spelling (s.ReadFile stage to file port index) h =
-    let p0 = split_first to (file ∷ (word_names index)) h.names in
-    let p1 = split_first file ((word_names index)) p0.1 in
-    both (plain_name to p0.0) (both (plain_part file (codes "r" ++ decimal port) p1.0 (plain_port port h.formed)) (both (plain_word index p1.1) refl))
-plain_spelling (s.ReadRegister stage to reg) h =
-    let p0 = split_first to (reg ∷ ([])) h.names in
-    let p1 = split_first reg (([])) p0.1 in
-    both (plain_name to p0.0) (both (plain_name reg p1.0) refl)
-plain_spelling (s.ReadMemory stage to mem at) h =
-    let p0 = split_first to (mem ∷ (word_names at)) h.names in
-    let p1 = split_first mem ((word_names at)) p0.1 in
-    both (plain_name to p0.0) (both (plain_part mem (codes "read") p1.0 refl) (both (plain_word at p1.1) refl))
-plain_spelling (s.ReadInput stage to input) h =
-    let p0 = split_first to (input ∷ ([])) h.names in
-    let p1 = split_first input (([])) p0.1 in
-    both (plain_name to p0.0) (both (plain_name input p1.0) refl)
-plain_spelling (s.Const stage to width value) h =
-    let p0 = split_first to (([])) h.names in
-    both (plain_name to p0.0) refl
-plain_spelling (s.Zext stage to width a) h =
-    let p0 = split_first to ((word_names a)) h.names in
-    both (plain_name to p0.0) (both (plain_word a p0.1) refl)
-plain_spelling (s.Sext stage to width a) h =
-    let p0 = split_first to ((word_names a)) h.names in
-    both (plain_name to p0.0) (both (plain_word a p0.1) refl)
-plain_spelling (s.Slice stage to high low a) h =
-    let p0 = split_first to ((word_names a)) h.names in
-    both (plain_name to p0.0) (both (plain_word a p0.1) refl)
-plain_spelling (s.Cat stage to a b) h =
-    let p0 = split_first to ((word_names a ++ word_names b)) h.names in
-    let q = split_joined (word_names a) (word_names b) p0.1 in
-    both (plain_name to p0.0) (both (plain_word a q.0) (both (plain_word b q.1) refl))
-plain_spelling (s.WriteFile stage file port index value guard) h =
-    let p0 = split_first file ((word_names index ++ word_names value ++ guard_names guard)) h.names in
-    let q = split_joined (word_names index ++ word_names value) (guard_names guard) p0.1 in
-    let r = split_joined (word_names index) (word_names value) q.0 in
-    both (plain_part file (codes "w" ++ decimal port) p0.0 (plain_port port h.formed)) (both (plain_word index r.0) (both (plain_word value r.1) (plain_guard guard q.1)))
-plain_spelling (s.WriteRegister stage reg value guard) h =
-    let p0 = split_first reg ((word_names value ++ guard_names guard)) h.names in
-    let q = split_joined (word_names value) (guard_names guard) p0.1 in
-    both (plain_name reg p0.0) (both (plain_word value q.0) (plain_guard guard q.1))
-plain_spelling (s.WriteMemory stage mem at value guard) h =
-    let p0 = split_first mem ((word_names at ++ word_names value ++ guard_names guard)) h.names in
-    let q = split_joined (word_names at ++ word_names value) (guard_names guard) p0.1 in
-    let r = split_joined (word_names at) (word_names value) q.0 in
-    both (plain_part mem (codes "write") p0.0 refl) (both (plain_word at r.0) (both (plain_word value r.1) (plain_guard guard q.1)))
-plain_spelling (s.Branch stage cond target) h =
-    let q = split_joined (word_names cond) (word_names target) h.names in
-    both (plain_word cond q.0) (both (plain_word target q.1) refl)
-plain_spelling (s.Jump stage target) h =
-    both (plain_word target h.names) refl
-plain_spelling s.End h = refl
+plain_signs : (statement : Statement) → list_all has_plain_sign (form statement) ≡ true
+plain_signs s.End = refl
+plain_signs _ = refl
+
+fit_piece : (piece : Piece) → has_plain_sign piece ≡ true → is_spellable piece ≡ true → list_all is_fit (piece_tokens piece) ≡ true
+fit_piece (Sign word) h g = both h refl
+fit_piece (Name name) h g = both (plain_name name g) refl
+fit_piece (Number n) h g = both g refl
+fit_piece (Operand word) h g = both (fit_word word g) refl
+fit_piece (Operation unit op) h g =
+    let a = and_parts (is_free_name unit) (is_free_name op) g in
+    both (plain_part unit op a.0 (name_bytes op a.1)) refl
+fit_piece (Port file letter port) h g =
+    let a = and_parts (is_free_name file) (nat_lt port 10) g in
+    both (plain_part file (letter ++ decimal port) a.0 (joined_plain letter (decimal port) h (plain_port port a.1))) refl
+fit_piece (Access mem word) h g = both (plain_part mem word g h) refl
+fit_piece (Widths fields) h g = fit_widths fields (and_parts (has_fields fields) (are_free_fields fields) g).1
+fit_piece (Settings fields) h g = fit_values fields g
+fit_piece (Guard guard) h g = fit_guard guard g
+
+fit_pieces : (pieces : List Piece) → list_all has_plain_sign pieces ≡ true → list_all is_spellable pieces ≡ true → list_all is_fit (tokens_in pieces) ≡ true
+fit_pieces [] h g = refl
+fit_pieces (piece ∷ []) h g = fit_piece piece (and_parts (has_plain_sign piece) true h).0 (and_parts (is_spellable piece) true g).0
+fit_pieces (piece ∷ next ∷ pieces) h g =
+    let a = and_parts (has_plain_sign piece) (list_all has_plain_sign (next ∷ pieces)) h in
+    let b = and_parts (is_spellable piece) (list_all is_spellable (next ∷ pieces)) g in
+    list_all-append is_fit (piece_tokens piece) (tokens_in (next ∷ pieces)) ∙ both (fit_piece piece a.0 b.0) (fit_pieces (next ∷ pieces) a.1 b.1)
+
+-- what is written of a statement is fit
+pub fit_spelling : (statement : Statement) → IsSpellable statement → list_all is_fit (spelling statement) ≡ true
+fit_spelling statement h = fit_pieces (form statement) (plain_signs statement) h.pieces

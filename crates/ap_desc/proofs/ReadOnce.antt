@@ -1,9 +1,9 @@
 use Rattle.std.proofs.Common.{◌≡◌, ℕ, List, [], ◌∷◌, refl, sym, ◌∙◌}
 use Rattle.ap_text.specs.Lines.{TextLine, lines_of}
 use Rattle.ap_desc.specs.declared.description.Numbered.{Numbered}
-use Rattle.ap_desc.specs.Beside.{EachBeside}
+use Rattle.ap_bits.specs.Beside.{EachBeside}
 use Rattle.ap_desc.specs.Reading.{IsAt, ReadsAs}
-use Rattle.ap_desc.proofs.Said.{spelled_once}
+use Rattle.ap_desc.proofs.FormsComplete.{spelled_once}
 
 same_numbered : (n m : Numbered) → n.line ≡ m.line → n.statement ≡ m.statement → n ≡ m
 same_numbered n m e f = λ i. record { line = e i; statement = f i }

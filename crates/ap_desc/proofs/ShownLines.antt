@@ -1,7 +1,9 @@
 use Rattle.std.proofs.Common.{◌≡◌, ℕ, ◌+◌, ◌<◌, ◌^◌, List, [], ◌∷◌, ◌++◌, ◌&&◌, not, Bool, true, false, cond, map, suc, refl, sym, ap, ◌∙◌, arith, append-nil, append_assoc, subst}
 use Rattle.std.specs.Bool.{if◌then◌else◌}
+use Rattle.std.specs.Fmt.{decimal}
 use Rattle.std.specs.Prelude.{codes, filter}
 use Rattle.std.specs.List.{list_all, slice_split, onto_first, before_first, position_or_len, flat_map, AllByRecursion as Each}
+use Rattle.std.proofs.lemmas.Bool.{and_parts}
 use Rattle.std.proofs.lemmas.List.Folds.{list_all-append}
 use Rattle.std.proofs.lemmas.List.Splits.{slice_split-cons_no}
 use Rattle.std.proofs.lemmas.Bool.Decides.{nat_tests}
@@ -9,14 +11,15 @@ use Rattle.ap_text.specs.Lines.{TextLine, is_allowed, is_blank, is_clean, is_com
 use Rattle.ap_desc.specs.declared.description.Numbered.{Numbered}
 use Rattle.ap_desc.specs.declared.statement.Statement.{Statement}
 use Rattle.ap_desc.specs.declared.statement.Statement.TheVariants as s
-use Rattle.ap_desc.specs.Beside.{EachBeside}
+use Rattle.ap_bits.specs.Beside.{EachBeside}
 use Rattle.ap_desc.specs.Order.{is_micro}
 use Rattle.ap_desc.specs.Reading.{SpellsLine, IsAt, ReadsAs}
 use Rattle.ap_desc.specs.Shown.{after_space, line_bytes, renumbered, shown_text, shown_token, spaced}
 use Rattle.ap_desc.specs.Spelling.{Token, exactly, tagged, IsSpellable, Spells, is_small, spelling}
-use Rattle.ap_desc.proofs.PlainTokens.{both, decimal_plain, has_plain_text, is_plain, is_whole, joined_plain, plain_spelling, weaker}
+use Rattle.ap_desc.proofs.PartFits.{both, left, right}
+use Rattle.ap_desc.proofs.PlainTokens.{decimal_plain, fit_spelling, is_fit, is_plain, is_whole, joined_plain, weaker}
 use Rattle.ap_desc.proofs.Decimals.{decimal_is_token}
-use Rattle.ap_desc.proofs.ShownTokens.{left, right, shown_spells, small_below}
+use Rattle.ap_desc.proofs.ShownTokens.{shown_spells, small_below}
 
 -- a byte of a line that show writes: it is allowed, and is no comment sign and no line feed
 abbrev is_quiet : ℕ → Bool
@@ -42,19 +45,21 @@ token_after : (xs ys : List ℕ) → is_token ys ≡ true → is_token (xs ++ ys
 token_after [] ys h = h
 token_after (x ∷ xs) ys h = refl
 
-whole_token : (token : Token) → has_plain_text token ≡ true → is_small token ≡ true → is_whole (shown_token token) ≡ true
-whole_token (exactly bytes) h g = h
-whole_token (tagged tag n) h g = let small : n < 2 ^ 64 = small_below n g in
-    both (token_after tag _ (decimal_is_token n small)) (joined_plain tag _ h (decimal_plain n small))
+whole_token : (token : Token) → is_fit token ≡ true → is_whole (shown_token token) ≡ true
+whole_token (exactly bytes) h = h
+whole_token (tagged tag n) h =
+    let a = and_parts (list_all is_plain tag) (is_small n) h in
+    let small : n < 2 ^ 64 = small_below n a.1 in
+    both (token_after tag (decimal n) (decimal_is_token n small)) (joined_plain tag (decimal n) a.0 (decimal_plain n small))
 
 abbrev is_shown_whole : Token → Bool
 is_shown_whole token = is_whole (shown_token token)
 
-whole_tokens : (tokens : List Token) → list_all has_plain_text tokens ≡ true → list_all is_small tokens ≡ true → list_all is_shown_whole tokens ≡ true
-whole_tokens [] h g = refl
-whole_tokens (token ∷ tokens) h g = both
-    (whole_token token (left (has_plain_text token) (list_all has_plain_text tokens) h) (left (is_small token) (list_all is_small tokens) g))
-    (whole_tokens tokens (right (has_plain_text token) (list_all has_plain_text tokens) h) (right (is_small token) (list_all is_small tokens) g))
+whole_tokens : (tokens : List Token) → list_all is_fit tokens ≡ true → list_all is_shown_whole tokens ≡ true
+whole_tokens [] h = refl
+whole_tokens (token ∷ tokens) h =
+    let a = and_parts (is_fit token) (list_all is_fit tokens) h in
+    both (whole_token token a.0) (whole_tokens tokens a.1)
 
 not_true : (b : Bool) → not b ≡ true → b ≡ false
 not_true true h = cc
@@ -142,7 +147,7 @@ cut_line true tokens h = spaced_tokens tokens h
 cut_line false tokens h = spaced_tokens tokens h
 
 shown_whole : (statement : Statement) → IsSpellable statement → list_all is_shown_whole (spelling statement) ≡ true
-shown_whole statement h = whole_tokens (spelling statement) (plain_spelling statement h) h.numbers
+shown_whole statement h = whole_tokens (spelling statement) (fit_spelling statement h)
 
 line_quiet : (statement : Statement) → IsSpellable statement → list_all is_quiet (line_bytes statement) ≡ true
 line_quiet statement h = quiet_line (is_micro statement) (spelling statement) (shown_whole statement h)

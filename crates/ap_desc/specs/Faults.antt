@@ -9,14 +9,11 @@ use Rattle.ap_desc.specs.declared.fault.Fault.{Fault}
 use Rattle.ap_desc.specs.declared.fault.Fault.TheVariants as f
 use Rattle.ap_desc.specs.declared.fault.Refusal.{Refusal}
 use Rattle.ap_desc.specs.declared.statement.Statement.{Statement}
-use Rattle.ap_desc.specs.Beside.{EachBeside}
+use Rattle.ap_bits.specs.Beside.{EachBeside}
 use Rattle.ap_desc.specs.FaultTable.{phase_of, number_of}
+use Rattle.ap_desc.specs.Limits.{description_limit}
 use Rattle.ap_desc.specs.Order.{is_out_of_order, is_one_too_many}
 use Rattle.ap_desc.specs.Reading.{SpellsLine}
-
--- the most bytes that a description may have
-abbrev pub description_limit : ℕ
-description_limit = 1048576
 
 -- the line says nothing: it is bad, or of no form, or has a name or number that is none
 abbrev pub SaysNothing : TextLine → Type 0

@@ -1,4 +1,3 @@
-pub mod Beside
 pub mod Chains
 pub mod Clean
 pub mod Declarations
@@ -9,9 +8,11 @@ pub mod Examples
 pub mod FaultTable
 pub mod Faults
 pub mod FlowExamples
+pub mod Forms
 pub mod Groups
 pub mod Instructions
 pub mod Least
+pub mod Limits
 pub mod LineExamples
 pub mod StatementFaults
 pub mod Meaning
@@ -27,6 +28,7 @@ pub mod Shown
 pub mod Sound
 pub mod Spelling
 pub mod StageFaults
+pub mod TokenValues
 pub mod WidthFaults
 pub mod Widths
 pub mod WordFaults

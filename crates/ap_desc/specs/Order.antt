@@ -4,6 +4,7 @@ use Rattle.std.specs.List.{list_any}
 use Rattle.std.specs.Str.{bytes_eq}
 use Rattle.ap_desc.specs.declared.statement.Statement.{Statement}
 use Rattle.ap_desc.specs.declared.statement.Statement.TheVariants as s
+use Rattle.ap_desc.specs.Limits.{max_registers, max_files, max_memories, max_inputs, max_units, max_formats, max_fields, max_instructions, max_micro_operations}
 
 -- the sections in order: the four header statements, registers, files, memories, inputs, units, formats, instructions
 abbrev pub section : Statement → ℕ
@@ -70,14 +71,14 @@ section_count earlier statement = count_by (λ other. section other == section s
 
 -- the statement, one of its fields or the micro-operation is the first beyond its limit
 abbrev pub is_one_too_many : List Statement → Statement → Bool
-is_one_too_many earlier (s.Reg name width reset) = section_count earlier (s.Reg name width reset) == 64
-is_one_too_many earlier (s.File name width cells reads writes) = section_count earlier (s.File name width cells reads writes) == 8
-is_one_too_many earlier (s.Mem name address width) = section_count earlier (s.Mem name address width) == 4
-is_one_too_many earlier (s.In name width) = section_count earlier (s.In name width) == 8
-is_one_too_many earlier (s.Unit name kind width) = section_count earlier (s.Unit name kind width) == 32
-is_one_too_many earlier (s.Format name fields) = (section_count earlier (s.Format name fields) == 32) || nat_lt 16 (length fields)
-is_one_too_many earlier (s.Instr name format fixed) = count_by is_instr earlier == 256
-is_one_too_many earlier statement = is_micro statement && (micro_count earlier == 64)
+is_one_too_many earlier (s.Reg name width reset) = section_count earlier (s.Reg name width reset) == max_registers
+is_one_too_many earlier (s.File name width cells reads writes) = section_count earlier (s.File name width cells reads writes) == max_files
+is_one_too_many earlier (s.Mem name address width) = section_count earlier (s.Mem name address width) == max_memories
+is_one_too_many earlier (s.In name width) = section_count earlier (s.In name width) == max_inputs
+is_one_too_many earlier (s.Unit name kind width) = section_count earlier (s.Unit name kind width) == max_units
+is_one_too_many earlier (s.Format name fields) = (section_count earlier (s.Format name fields) == max_formats) || nat_lt max_fields (length fields)
+is_one_too_many earlier (s.Instr name format fixed) = count_by is_instr earlier == max_instructions
+is_one_too_many earlier statement = is_micro statement && (micro_count earlier == max_micro_operations)
 
 -- each statement stands where it is due after those before it, and none is one too many
 abbrev pub are_in_order : List Statement → List Statement → Bool

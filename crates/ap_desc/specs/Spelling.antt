@@ -1,5 +1,5 @@
 -- How each form of statement is spelled: its tokens, in order.
-use Rattle.std.specs.Prelude.{◌≡◌, ℕ, ◌^◌, Bool, true, false, nat_lt, IsTrue, List, [], ◌∷◌, ◌++◌, map, codes, Option, Some, None}
+use Rattle.std.specs.Prelude.{◌≡◌, ℕ, ◌^◌, ◌&&◌, Bool, true, false, nat_lt, IsTrue, List, [], ◌∷◌, ◌++◌, map, codes, Option, Some, None}
 use Rattle.std.specs.List.{list_all}
 use Rattle.std.specs.Fmt.{decimal}
 use Rattle.ap_text.specs.Numbers.{number_value}
@@ -8,7 +8,7 @@ use Rattle.ap_desc.specs.declared.statement.Word.TheVariants.{Pc, Link, Named}
 use Rattle.ap_desc.specs.declared.statement.FieldNumber.{FieldNumber}
 use Rattle.ap_desc.specs.declared.statement.Statement.{Statement}
 use Rattle.ap_desc.specs.declared.statement.Statement.TheVariants as s
-use Rattle.ap_desc.specs.Beside.{EachBeside}
+use Rattle.ap_bits.specs.Beside.{EachBeside}
 use Rattle.ap_desc.specs.Reserved.{is_free_name}
 
 -- a token of a form: exactly these bytes, or these bytes directly followed by a number
@@ -46,104 +46,118 @@ abbrev pub guard_tokens : Option Word → List Token
 guard_tokens None = []
 guard_tokens (Some guard) = exactly (codes "when") ∷ operand guard ∷ []
 
+-- a piece of a statement: a word or sign of the language, a name, a number, an operand, an operation of a unit, a port of a file
+-- (its name, its letter and its number), what a memory does, fields with their widths or their values, or a guard. The last three
+-- end a statement
+pub data Piece : Type 0 where
+  Sign : List ℕ → Piece
+  Name : List ℕ → Piece
+  Number : ℕ → Piece
+  Operand : Word → Piece
+  Operation : List ℕ → List ℕ → Piece
+  Port : List ℕ → List ℕ → ℕ → Piece
+  Access : List ℕ → List ℕ → Piece
+  Widths : List FieldNumber → Piece
+  Settings : List FieldNumber → Piece
+  Guard : Option Word → Piece
+
 -- a stage, a new local, and what it is
-abbrev pub assigned : ℕ → List ℕ → List Token → List Token
-assigned stage to from = number stage ∷ exactly to ∷ exactly (codes "=") ∷ from
+abbrev pub assigned : ℕ → List ℕ → List Piece → List Piece
+assigned stage to from = Number stage ∷ Name to ∷ Sign (codes "=") ∷ from
+
+-- the form of a statement: its pieces in order
+abbrev pub form : Statement → List Piece
+form (s.Stages count) = Sign (codes "stages") ∷ Number count ∷ []
+form (s.Address bits) = Sign (codes "address") ∷ Number bits ∷ []
+form (s.Word bits) = Sign (codes "word") ∷ Number bits ∷ []
+form (s.Transfer stage slots) = Sign (codes "transfer") ∷ Number stage ∷ Number slots ∷ []
+form (s.Reg name width reset) = Sign (codes "reg") ∷ Name name ∷ Number width ∷ Number reset ∷ []
+form (s.File name width cells reads writes) = Sign (codes "file") ∷ Name name ∷ Number width ∷ Number cells ∷ Number reads ∷ Number writes ∷ []
+form (s.Mem name address width) = Sign (codes "mem") ∷ Name name ∷ Number address ∷ Number width ∷ []
+form (s.In name width) = Sign (codes "in") ∷ Name name ∷ Number width ∷ []
+form (s.Unit name kind width) = Sign (codes "unit") ∷ Name name ∷ Name kind ∷ Number width ∷ []
+form (s.Format name fields) = Sign (codes "format") ∷ Name name ∷ Widths fields ∷ []
+form (s.Instr name format fixed) = Sign (codes "instr") ∷ Name name ∷ Name format ∷ Settings fixed ∷ []
+form (s.Compute stage to unit op a b) = assigned stage to (Operation unit op ∷ Operand a ∷ Operand b ∷ [])
+form (s.ReadFile stage to file port index) = assigned stage to (Port file (codes "r") port ∷ Operand index ∷ [])
+form (s.ReadRegister stage to reg) = assigned stage to (Name reg ∷ [])
+form (s.ReadMemory stage to mem at) = assigned stage to (Access mem (codes "read") ∷ Operand at ∷ [])
+form (s.ReadInput stage to input) = assigned stage to (Sign (codes "in") ∷ Name input ∷ [])
+form (s.Const stage to width value) = assigned stage to (Sign (codes "const") ∷ Number width ∷ Number value ∷ [])
+form (s.Zext stage to width a) = assigned stage to (Sign (codes "zext") ∷ Number width ∷ Operand a ∷ [])
+form (s.Sext stage to width a) = assigned stage to (Sign (codes "sext") ∷ Number width ∷ Operand a ∷ [])
+form (s.Slice stage to high low a) = assigned stage to (Sign (codes "slice") ∷ Number high ∷ Number low ∷ Operand a ∷ [])
+form (s.Cat stage to a b) = assigned stage to (Sign (codes "cat") ∷ Operand a ∷ Operand b ∷ [])
+form (s.WriteFile stage file port index value guard) = Number stage ∷ Port file (codes "w") port ∷ Operand index ∷ Operand value ∷ Guard guard ∷ []
+form (s.WriteRegister stage reg value guard) = Number stage ∷ Name reg ∷ Sign (codes "<-") ∷ Operand value ∷ Guard guard ∷ []
+form (s.WriteMemory stage mem at value guard) = Number stage ∷ Access mem (codes "write") ∷ Operand at ∷ Operand value ∷ Guard guard ∷ []
+form (s.Branch stage cond target) = Number stage ∷ Sign (codes "branch") ∷ Operand cond ∷ Operand target ∷ []
+form (s.Jump stage target) = Number stage ∷ Sign (codes "jump") ∷ Operand target ∷ []
+form s.End = Sign (codes "end") ∷ []
+
+-- the tokens of a piece
+abbrev pub piece_tokens : Piece → List Token
+piece_tokens (Sign word) = exactly word ∷ []
+piece_tokens (Name name) = exactly name ∷ []
+piece_tokens (Number n) = number n ∷ []
+piece_tokens (Operand word) = operand word ∷ []
+piece_tokens (Operation unit op) = part_of unit op ∷ []
+piece_tokens (Port file letter port) = part_of file (letter ++ decimal port) ∷ []
+piece_tokens (Access mem word) = part_of mem word ∷ []
+piece_tokens (Widths fields) = map width_token fields
+piece_tokens (Settings fields) = map value_token fields
+piece_tokens (Guard guard) = guard_tokens guard
+
+-- the tokens of pieces
+abbrev pub tokens_in : List Piece → List Token
+tokens_in [] = []
+tokens_in (piece ∷ []) = piece_tokens piece
+tokens_in (piece ∷ next ∷ pieces) = piece_tokens piece ++ tokens_in (next ∷ pieces)
 
 -- the tokens of a statement
 abbrev pub spelling : Statement → List Token
-spelling (s.Stages count) = exactly (codes "stages") ∷ number count ∷ []
-spelling (s.Address bits) = exactly (codes "address") ∷ number bits ∷ []
-spelling (s.Word bits) = exactly (codes "word") ∷ number bits ∷ []
-spelling (s.Transfer stage slots) = exactly (codes "transfer") ∷ number stage ∷ number slots ∷ []
-spelling (s.Reg name width reset) = exactly (codes "reg") ∷ exactly name ∷ number width ∷ number reset ∷ []
-spelling (s.File name width cells reads writes) = exactly (codes "file") ∷ exactly name ∷ number width ∷ number cells ∷ number reads ∷ number writes ∷ []
-spelling (s.Mem name address width) = exactly (codes "mem") ∷ exactly name ∷ number address ∷ number width ∷ []
-spelling (s.In name width) = exactly (codes "in") ∷ exactly name ∷ number width ∷ []
-spelling (s.Unit name kind width) = exactly (codes "unit") ∷ exactly name ∷ exactly kind ∷ number width ∷ []
-spelling (s.Format name fields) = exactly (codes "format") ∷ exactly name ∷ map width_token fields
-spelling (s.Instr name format fixed) = exactly (codes "instr") ∷ exactly name ∷ exactly format ∷ map value_token fixed
-spelling (s.Compute stage to unit op a b) = assigned stage to (part_of unit op ∷ operand a ∷ operand b ∷ [])
-spelling (s.ReadFile stage to file port index) = assigned stage to (part_of file (codes "r" ++ decimal port) ∷ operand index ∷ [])
-spelling (s.ReadRegister stage to reg) = assigned stage to (exactly reg ∷ [])
-spelling (s.ReadMemory stage to mem at) = assigned stage to (part_of mem (codes "read") ∷ operand at ∷ [])
-spelling (s.ReadInput stage to input) = assigned stage to (exactly (codes "in") ∷ exactly input ∷ [])
-spelling (s.Const stage to width value) = assigned stage to (exactly (codes "const") ∷ number width ∷ number value ∷ [])
-spelling (s.Zext stage to width a) = assigned stage to (exactly (codes "zext") ∷ number width ∷ operand a ∷ [])
-spelling (s.Sext stage to width a) = assigned stage to (exactly (codes "sext") ∷ number width ∷ operand a ∷ [])
-spelling (s.Slice stage to high low a) = assigned stage to (exactly (codes "slice") ∷ number high ∷ number low ∷ operand a ∷ [])
-spelling (s.Cat stage to a b) = assigned stage to (exactly (codes "cat") ∷ operand a ∷ operand b ∷ [])
-spelling (s.WriteFile stage file port index value guard) = number stage ∷ part_of file (codes "w" ++ decimal port) ∷ operand index ∷ operand value ∷ guard_tokens guard
-spelling (s.WriteRegister stage reg value guard) = number stage ∷ exactly reg ∷ exactly (codes "<-") ∷ operand value ∷ guard_tokens guard
-spelling (s.WriteMemory stage mem at value guard) = number stage ∷ part_of mem (codes "write") ∷ operand at ∷ operand value ∷ guard_tokens guard
-spelling (s.Branch stage cond target) = number stage ∷ exactly (codes "branch") ∷ operand cond ∷ operand target ∷ []
-spelling (s.Jump stage target) = number stage ∷ exactly (codes "jump") ∷ operand target ∷ []
-spelling s.End = exactly (codes "end") ∷ []
+spelling statement = tokens_in (form statement)
 
--- the name in an operand, if there is one
-abbrev pub word_names : Word → List (List ℕ)
-word_names Pc = []
-word_names Link = []
-word_names (Named name) = name ∷ []
+-- a number that a token can spell is at most 2^64 - 1
+abbrev pub is_small : ℕ → Bool
+is_small n = nat_lt n (2 ^ 64)
 
-abbrev pub guard_names : Option Word → List (List ℕ)
-guard_names None = []
-guard_names (Some guard) = word_names guard
+-- an operand's name may be used
+abbrev pub is_free_word : Word → Bool
+is_free_word Pc = true
+is_free_word Link = true
+is_free_word (Named name) = is_free_name name
 
-abbrev pub field_names : List FieldNumber → List (List ℕ)
-field_names fields = map (λ f. f.field) fields
+abbrev pub is_free_guard : Option Word → Bool
+is_free_guard None = true
+is_free_guard (Some guard) = is_free_word guard
 
--- every name in a statement
-abbrev pub names_of : Statement → List (List ℕ)
-names_of (s.Stages count) = []
-names_of (s.Address bits) = []
-names_of (s.Word bits) = []
-names_of (s.Transfer stage slots) = []
-names_of (s.Reg name width reset) = name ∷ []
-names_of (s.File name width cells reads writes) = name ∷ []
-names_of (s.Mem name address width) = name ∷ []
-names_of (s.In name width) = name ∷ []
-names_of (s.Unit name kind width) = name ∷ kind ∷ []
-names_of (s.Format name fields) = name ∷ field_names fields
-names_of (s.Instr name format fixed) = name ∷ format ∷ field_names fixed
-names_of (s.Compute stage to unit op a b) = to ∷ unit ∷ op ∷ word_names a ++ word_names b
-names_of (s.ReadFile stage to file port index) = to ∷ file ∷ word_names index
-names_of (s.ReadRegister stage to reg) = to ∷ reg ∷ []
-names_of (s.ReadMemory stage to mem at) = to ∷ mem ∷ word_names at
-names_of (s.ReadInput stage to input) = to ∷ input ∷ []
-names_of (s.Const stage to width value) = to ∷ []
-names_of (s.Zext stage to width a) = to ∷ word_names a
-names_of (s.Sext stage to width a) = to ∷ word_names a
-names_of (s.Slice stage to high low a) = to ∷ word_names a
-names_of (s.Cat stage to a b) = to ∷ word_names a ++ word_names b
-names_of (s.WriteFile stage file port index value guard) = file ∷ word_names index ++ word_names value ++ guard_names guard
-names_of (s.WriteRegister stage reg value guard) = reg ∷ word_names value ++ guard_names guard
-names_of (s.WriteMemory stage mem at value guard) = mem ∷ word_names at ++ word_names value ++ guard_names guard
-names_of (s.Branch stage cond target) = word_names cond ++ word_names target
-names_of (s.Jump stage target) = word_names target
-names_of s.End = []
+abbrev pub are_free_fields : List FieldNumber → Bool
+are_free_fields fields = list_all (λ f. is_free_name f.field && is_small f.number) fields
 
 abbrev pub has_fields : List FieldNumber → Bool
 has_fields [] = false
 has_fields (f ∷ fields) = true
 
--- a port's number is one digit, and a format has a field
-abbrev pub is_formed : Statement → Bool
-is_formed (s.Format name fields) = has_fields fields
-is_formed (s.ReadFile stage to file port index) = nat_lt port 10
-is_formed (s.WriteFile stage file port index value guard) = nat_lt port 10
-is_formed _ = true
+-- the piece can be spelled: its names may be used, its numbers are small, a port's number is one digit, and there is a width
+abbrev pub is_spellable : Piece → Bool
+is_spellable (Sign word) = true
+is_spellable (Name name) = is_free_name name
+is_spellable (Number n) = is_small n
+is_spellable (Operand word) = is_free_word word
+is_spellable (Operation unit op) = is_free_name unit && is_free_name op
+is_spellable (Port file letter port) = is_free_name file && nat_lt port 10
+is_spellable (Access mem word) = is_free_name mem
+is_spellable (Widths fields) = has_fields fields && are_free_fields fields
+is_spellable (Settings fields) = are_free_fields fields
+is_spellable (Guard guard) = is_free_guard guard
 
--- a number that a token can spell is at most 2^64 - 1
-abbrev pub is_small : Token → Bool
-is_small (exactly bytes) = true
-is_small (tagged tag n) = nat_lt n (2 ^ 64)
-
--- the statement has a spelling: its names are names and none is reserved, its numbers are small, and it is formed rightly
+-- the statement has a spelling: each of its pieces has one
 pub record IsSpellable (statement : Statement) : Type 0 where
-  pub names : IsTrue (list_all is_free_name (names_of statement))
-  pub numbers : IsTrue (list_all is_small (spelling statement))
-  pub formed : IsTrue (is_formed statement)
+  pub pieces : IsTrue (list_all is_spellable (form statement))
+
+abbrev pub field_names : List FieldNumber → List (List ℕ)
+field_names fields = map (λ f. f.field) fields
 
 -- the bytes are a token of the form: a number may have any spelling
 abbrev pub IsToken : Token → List ℕ → Type 0

@@ -1,10 +1,11 @@
 //! Laws of the definitions. They do nothing: their contracts are what they say.
-ghost use Rattle.std.specs.Prelude.{◌≡◌, ◌↔◌, ℕ, List, true};
+ghost use Rattle.std.specs.Prelude.{◌≡◌, ◌↔◌, ℕ, List, Some, true};
 ghost use Rattle.ap_bits.specs.declared.card.Card.{Card};
 ghost use Rattle.ap_desc.specs.Chains.{ClosesLoop, IsChainOrder, IsLooped};
 ghost use Rattle.ap_desc.specs.Clean.{IsClean};
 ghost use Rattle.ap_desc.specs.Descriptions.{IsDescription};
 ghost use Rattle.ap_desc.specs.DesignOf.{design_of};
+ghost use Rattle.ap_desc.specs.Forms.{statement_in};
 ghost use Rattle.ap_desc.specs.Least.{HoldsNowhere, IsLeast};
 ghost use Rattle.ap_desc.specs.StatementFaults.{HasStatementFault};
 ghost use Rattle.ap_desc.specs.Meaning.{IsLeastFault, IsLeastMeaningFault, IsLeastPortFault, IsLeastWordFault, IsMeaningful, MeetsFault, MeetsMeaningFault, MeetsPortFault, MeetsWordFault};
@@ -18,8 +19,14 @@ ghost use Rattle.ap_desc.specs.declared.design.Node.{Node};
 ghost use Rattle.ap_desc.specs.declared.fault.Refusal.{Refusal};
 ghost use Rattle.ap_desc.specs.declared.statement.Statement.{Statement};
 
+/// The statement that tokens give is the one that they spell.
+pub fn forms_are_exact()
+    ensures sound { (tokens : List (List ℕ)) (statement : Statement) → statement_in tokens ≡ Some statement → Spells statement tokens }
+    ensures complete { (tokens : List (List ℕ)) (statement : Statement) → Spells statement tokens → statement_in tokens ≡ Some statement }
+{}
+
 /// No two statements have the same tokens.
-#[tactic(auto, using(crate::proofs::Said::spelled_once))]
+#[tactic(auto, using(crate::proofs::FormsComplete::spelled_once))]
 pub fn spelling_is_unique()
     ensures { (one other : Statement) (tokens : List (List ℕ)) → Spells one tokens → Spells other tokens → one ≡ other }
 {}

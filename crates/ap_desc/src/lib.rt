@@ -10,6 +10,7 @@ pub mod description;
 pub mod design;
 pub mod fault;
 pub mod laws;
+pub mod limits;
 pub mod statement;
 pub mod writing;
 

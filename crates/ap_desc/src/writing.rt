@@ -36,7 +36,8 @@ fn text_of(alloc: Global, statements: &[Numbered]) -> Result<Vec<u8>, NoMemory>
 
 /// Fields with their widths, each after a space.
 fn widths_text(alloc: Global, fields: &[FieldNumber]) -> Result<String, NoMemory>
-    ensures { IfOk result (λ text. string_bytes text ≡ flat_map after_space (map width_token fields.now)) }
+    ensures { IfOk result (λ text. string_bytes text
+        ≡ flat_map after_space (map width_token fields.now)) }
 {
     let mut text = String::new(alloc);
     for FieldNumber { field, number } in fields {
@@ -49,7 +50,8 @@ fn widths_text(alloc: Global, fields: &[FieldNumber]) -> Result<String, NoMemory
 
 /// Fields with their values, each after a space.
 fn values_text(alloc: Global, fields: &[FieldNumber]) -> Result<String, NoMemory>
-    ensures { IfOk result (λ text. string_bytes text ≡ flat_map after_space (map value_token fields.now)) }
+    ensures { IfOk result (λ text. string_bytes text
+        ≡ flat_map after_space (map value_token fields.now)) }
 {
     let mut text = String::new(alloc);
     for FieldNumber { field, number } in fields {
@@ -62,7 +64,8 @@ fn values_text(alloc: Global, fields: &[FieldNumber]) -> Result<String, NoMemory
 
 /// A guard, after a space.
 fn guard_text(alloc: Global, guard: &Option<Word>) -> Result<String, NoMemory>
-    ensures { IfOk result (λ text. string_bytes text ≡ flat_map after_space (guard_tokens guard.now)) }
+    ensures { IfOk result (λ text. string_bytes text
+        ≡ flat_map after_space (guard_tokens guard.now)) }
 {
     let text = match guard {
         None => String::new(alloc),

@@ -5,7 +5,7 @@ use Rattle.std.proofs.lemmas.Bool.Decides.{nat_tests}
 use Rattle.std.proofs.lemmas.List.Quantifiers.{position-Some}
 use Rattle.std.proofs.lemmas.List.Sums.{fails_before_first}
 use native.Mathlib.Numerals.{unary_clauses}
-use Rattle.ap_read.specs.Parts.{cut_on}
+use Rattle.ap_desc.specs.TokenValues.{cut_on}
 
 cut_at : (c : ℕ) (xs : List ℕ) (i : ℕ) → i < length xs → (get_or xs i 0 == c) ≡ true → ((k : ℕ) → k < i → (get_or xs k 0 == c) ≡ false) → cut_on c xs ≡ Some (take i xs, drop (i + 1) xs)
 unfolding cut_on

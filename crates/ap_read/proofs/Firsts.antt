@@ -8,7 +8,7 @@ use Rattle.ap_desc.specs.declared.fault.DescFault.TheVariants.{Refused, NoMemory
 use Rattle.ap_desc.specs.declared.fault.Fault.{Fault}
 use Rattle.ap_desc.specs.declared.fault.Fault.TheVariants as f
 use Rattle.ap_desc.specs.declared.statement.Statement.{Statement}
-use Rattle.ap_desc.specs.Beside.{EachBeside}
+use Rattle.ap_bits.specs.Beside.{EachBeside}
 use Rattle.ap_desc.specs.FaultTable.{phase_of}
 use Rattle.ap_desc.specs.Order.{are_in_order, is_one_too_many, is_out_of_order}
 use Rattle.ap_desc.specs.Reading.{IsAt, SpellsLine}

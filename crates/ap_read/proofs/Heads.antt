@@ -11,27 +11,29 @@ use Rattle.ap_text.specs.Numbers.{number_value, spelled_value}
 use Rattle.ap_desc.specs.declared.statement.FieldNumber.{FieldNumber}
 use Rattle.ap_desc.specs.declared.statement.Statement.{Statement}
 use Rattle.ap_desc.specs.declared.statement.Statement.TheVariants as s
-use Rattle.ap_desc.specs.Beside.{EachBeside}
+use Rattle.ap_bits.specs.Beside.{EachBeside}
 use Rattle.ap_desc.specs.Faults.{begins, consists_of, is_missing_some, open_after}
 use Rattle.ap_desc.specs.Order.{has_section, inside_after, is_complete, is_end, is_inside, is_instr, is_nop, section}
 use Rattle.ap_desc.specs.Reading.{SpellsLine}
-use Rattle.ap_desc.specs.Spelling.{IsToken, number, spelling}
+use Rattle.ap_desc.specs.Spelling.{IsToken, Piece, Sign, Number, form, number, spelling, tokens_in}
 
--- the word that a statement begins with; a micro-operation begins with a number
+-- the word that pieces begin with; a micro-operation begins with a number
+abbrev opening : List Piece → List ℕ
+opening (Sign word ∷ pieces) = word
+opening _ = []
+
 abbrev keyword : Statement → List ℕ
-keyword (s.Stages count) = codes "stages"
-keyword (s.Address bits) = codes "address"
-keyword (s.Word bits) = codes "word"
-keyword (s.Transfer stage slots) = codes "transfer"
-keyword (s.Reg name width reset) = codes "reg"
-keyword (s.File name width cells reads writes) = codes "file"
-keyword (s.Mem name address width) = codes "mem"
-keyword (s.In name width) = codes "in"
-keyword (s.Unit name kind width) = codes "unit"
-keyword (s.Format name fields) = codes "format"
-keyword (s.Instr name format fixed) = codes "instr"
-keyword s.End = codes "end"
-keyword _ = []
+keyword statement = opening (form statement)
+
+-- every statement begins with a word or a number
+abbrev is_opened : List Piece → Bool
+is_opened (Sign word ∷ pieces) = true
+is_opened (Number n ∷ pieces) = true
+is_opened _ = false
+
+all_opened : (statement : Statement) → is_opened (form statement) ≡ true
+all_opened s.End = refl
+all_opened _ = refl
 
 -- the bytes are neither a number nor nothing
 record IsWord (word : List ℕ) : Type 0 where
@@ -44,35 +46,16 @@ no_word word token n w h = false_from_ne_true (bytes_eq word token) (λ same.
     let e : word ≡ token = (bytes_decides word token).0 same in
     let wrong : Some n ≡ None = sym h.2 ∙ ap number_value (sym (e ∙ h.1)) ∙ w.no_number in cc) ∙ sym w.not_empty
 
--- the first token is the word exactly where the statement begins with it
+-- the first token is the word exactly where the pieces begin with it
+first_piece : (pieces : List Piece) (word token : List ℕ) (tokens : List (List ℕ)) → is_opened pieces ≡ true → IsWord word → EachBeside IsToken (tokens_in pieces) (token ∷ tokens) → bytes_eq word token ≡ bytes_eq word (opening pieces)
+first_piece (Sign sign ∷ []) word token tokens o w h = ap (bytes_eq word) h.0
+first_piece (Sign sign ∷ next ∷ pieces) word token tokens o w h = ap (bytes_eq word) h.0
+first_piece (Number n ∷ []) word token tokens o w h = no_word word token n w h.0
+first_piece (Number n ∷ next ∷ pieces) word token tokens o w h = no_word word token n w h.0
+first_piece _ word token tokens o w h = cc
+
 first_token : (statement : Statement) (word token : List ℕ) (tokens : List (List ℕ)) → IsWord word → EachBeside IsToken (spelling statement) (token ∷ tokens) → bytes_eq word token ≡ bytes_eq word (keyword statement)
-first_token (s.Stages a) word token tokens w h = ap (bytes_eq word) h.0
-first_token (s.Address a) word token tokens w h = ap (bytes_eq word) h.0
-first_token (s.Word a) word token tokens w h = ap (bytes_eq word) h.0
-first_token (s.Transfer a b) word token tokens w h = ap (bytes_eq word) h.0
-first_token (s.Reg a b c) word token tokens w h = ap (bytes_eq word) h.0
-first_token (s.File a b c d e) word token tokens w h = ap (bytes_eq word) h.0
-first_token (s.Mem a b c) word token tokens w h = ap (bytes_eq word) h.0
-first_token (s.In a b) word token tokens w h = ap (bytes_eq word) h.0
-first_token (s.Unit a b c) word token tokens w h = ap (bytes_eq word) h.0
-first_token (s.Format a b) word token tokens w h = ap (bytes_eq word) h.0
-first_token (s.Instr a b c) word token tokens w h = ap (bytes_eq word) h.0
-first_token s.End word token tokens w h = ap (bytes_eq word) h.0
-first_token (s.Compute a b c d e f) word token tokens w h = no_word word token a w h.0
-first_token (s.ReadFile a b c d e) word token tokens w h = no_word word token a w h.0
-first_token (s.ReadRegister a b c) word token tokens w h = no_word word token a w h.0
-first_token (s.ReadMemory a b c d) word token tokens w h = no_word word token a w h.0
-first_token (s.ReadInput a b c) word token tokens w h = no_word word token a w h.0
-first_token (s.Const a b c d) word token tokens w h = no_word word token a w h.0
-first_token (s.Zext a b c d) word token tokens w h = no_word word token a w h.0
-first_token (s.Sext a b c d) word token tokens w h = no_word word token a w h.0
-first_token (s.Slice a b c d e) word token tokens w h = no_word word token a w h.0
-first_token (s.Cat a b c d) word token tokens w h = no_word word token a w h.0
-first_token (s.WriteFile a b c d e f) word token tokens w h = no_word word token a w h.0
-first_token (s.WriteRegister a b c d) word token tokens w h = no_word word token a w h.0
-first_token (s.WriteMemory a b c d e) word token tokens w h = no_word word token a w h.0
-first_token (s.Branch a b c) word token tokens w h = no_word word token a w h.0
-first_token (s.Jump a b) word token tokens w h = no_word word token a w h.0
+first_token statement word token tokens w h = first_piece (form statement) word token tokens (all_opened statement) w h
 
 -- every statement has a token
 some_token : {A : Type 0} (statement : Statement) → EachBeside IsToken (spelling statement) [] → A

@@ -1,15 +1,8 @@
-pub mod Complete
 pub mod Cuts
-pub mod Exact
 pub mod Firsts
 pub mod Heads
-pub mod Keywords
 pub mod Lines
-pub mod Names
-pub mod PartFits
 pub mod Places
-pub mod Sound
-pub mod Tokens
 pub mod Walks
 pub mod Whole
 pub mod Words

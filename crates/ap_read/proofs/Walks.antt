@@ -7,7 +7,7 @@ use Rattle.ap_desc.specs.declared.fault.Fault.{Fault}
 use Rattle.ap_desc.specs.declared.fault.Fault.TheVariants as f
 use Rattle.ap_desc.specs.declared.fault.Refusal.{Refusal}
 use Rattle.ap_desc.specs.declared.statement.Statement.{Statement}
-use Rattle.ap_desc.specs.Beside.{EachBeside}
+use Rattle.ap_bits.specs.Beside.{EachBeside}
 use Rattle.ap_desc.specs.Faults.{IsBefore, SaysNothing, StandsAt}
 use Rattle.ap_desc.specs.FaultTable.{phase_of, number_of}
 use Rattle.ap_desc.specs.Order.{are_in_order, is_one_too_many, is_out_of_order}

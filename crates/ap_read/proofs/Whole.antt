@@ -9,10 +9,11 @@ use Rattle.ap_desc.specs.declared.fault.DescFault.{DescFault}
 use Rattle.ap_desc.specs.declared.fault.DescFault.TheVariants.{Refused, NoMemory}
 use Rattle.ap_desc.specs.declared.fault.Fault.{Fault}
 use Rattle.ap_desc.specs.declared.fault.Fault.TheVariants as f
-use Rattle.ap_desc.specs.Beside.{EachBeside}
+use Rattle.ap_bits.specs.Beside.{EachBeside}
 use Rattle.ap_desc.specs.Descriptions.{IsDescription, RiseAbove}
-use Rattle.ap_desc.specs.Faults.{HasFormFault, IsBefore, IsWellFormed, IsLeastFormFault, description_limit, is_missing_some}
+use Rattle.ap_desc.specs.Faults.{HasFormFault, IsBefore, IsWellFormed, IsLeastFormFault, is_missing_some}
 use Rattle.ap_desc.specs.FaultTable.{phase_of}
+use Rattle.ap_desc.specs.Limits.{description_limit}
 use Rattle.ap_desc.specs.Order.{are_in_order}
 use Rattle.ap_desc.specs.Reading.{IsAt, ReadsAs}
 use Rattle.ap_desc.specs.Spelling.{IsSpellable}

@@ -11,6 +11,8 @@ use Rattle.ap_desc.specs.FaultTable.{phase_of}
 use Rattle.ap_desc.specs.Faults.{SaysAt, SaysNothing, StandsAt, IsBefore}
 use Rattle.ap_desc.specs.Order.{is_out_of_order, is_one_too_many}
 use Rattle.ap_desc.specs.Reading.{SpellsLine}
+use Rattle.ap_read.specs.Places.{IsFaultAt, IsPlaceAfter}
+use Rattle.ap_read.specs.declared.place.Place.{Place}
 
 -- the line says this statement, or nothing
 abbrev pub IsSaidAt : Option Statement → TextLine → Type 0
@@ -57,3 +59,11 @@ IsUnsaid line NoMemory = Unit {0}
 abbrev pub IsFaultFirst : List Statement → TextLine → DescFault → Type 0
 IsFaultFirst said line (Refused refusal) = (rest : List TextLine) → LinesRise line.number rest → IsLeastLineFault said (line ∷ rest) refusal
 IsFaultFirst said line NoMemory = Unit {0}
+
+-- the line says the statement, and the statement has no fault at this place
+abbrev pub IsReadAt : Place → TextLine → Statement → Type 0
+IsReadAt place line statement = SpellsLine statement line × IsFaultAt place statement None
+
+-- the line has this fault, as the first of those that are left at this place
+abbrev pub IsRefusedAt : Place → TextLine → DescFault → Type 0
+IsRefusedAt place line fault = (earlier : List Statement) → IsPlaceAfter earlier place → IsFaultFirst earlier line fault

@@ -5,6 +5,7 @@ use Rattle.ap_desc.specs.declared.fault.Fault.{Fault}
 use Rattle.ap_desc.specs.declared.fault.Fault.TheVariants as f
 use Rattle.ap_desc.specs.declared.statement.Statement.{Statement}
 use Rattle.ap_desc.specs.declared.statement.Statement.TheVariants as s
+use Rattle.ap_desc.specs.Limits.{max_registers, max_files, max_memories, max_inputs, max_units, max_formats, max_fields, max_instructions, max_micro_operations}
 use Rattle.ap_desc.specs.Order.{section, is_header, is_instr, is_micro, is_inside, inside_after, micros_after, is_late_for, is_out_of_order, is_one_too_many, micro_count}
 use Rattle.ap_read.specs.declared.place.Place.{Place}
 
@@ -18,14 +19,14 @@ count_at place statement = if nat_lt (section statement) place.begun then place.
 
 -- the statement, one of its fields or the micro-operation would be the first beyond its limit here
 abbrev pub is_past_limit : Place → Statement → Bool
-is_past_limit place (s.Reg name width reset) = count_at place (s.Reg name width reset) == 64
-is_past_limit place (s.File name width cells reads writes) = count_at place (s.File name width cells reads writes) == 8
-is_past_limit place (s.Mem name address width) = count_at place (s.Mem name address width) == 4
-is_past_limit place (s.In name width) = count_at place (s.In name width) == 8
-is_past_limit place (s.Unit name kind width) = count_at place (s.Unit name kind width) == 32
-is_past_limit place (s.Format name fields) = (count_at place (s.Format name fields) == 32) || nat_lt 16 (length fields)
-is_past_limit place (s.Instr name format fixed) = place.instructions == 256
-is_past_limit place statement = is_micro statement && (place.micros == 64)
+is_past_limit place (s.Reg name width reset) = count_at place (s.Reg name width reset) == max_registers
+is_past_limit place (s.File name width cells reads writes) = count_at place (s.File name width cells reads writes) == max_files
+is_past_limit place (s.Mem name address width) = count_at place (s.Mem name address width) == max_memories
+is_past_limit place (s.In name width) = count_at place (s.In name width) == max_inputs
+is_past_limit place (s.Unit name kind width) = count_at place (s.Unit name kind width) == max_units
+is_past_limit place (s.Format name fields) = (count_at place (s.Format name fields) == max_formats) || nat_lt max_fields (length fields)
+is_past_limit place (s.Instr name format fixed) = place.instructions == max_instructions
+is_past_limit place statement = is_micro statement && (place.micros == max_micro_operations)
 
 -- the numbers are those of the place after these statements
 pub record IsPlaceAfter (earlier : List Statement) (place : Place) : Type 0 where
@@ -55,3 +56,7 @@ IsFaultAfter earlier statement None = (is_out_of_order earlier statement ≡ fal
 IsFaultAfter earlier statement (Some f.BadOrder) = IsTrue (is_out_of_order earlier statement)
 IsFaultAfter earlier statement (Some f.TooMany) = (is_out_of_order earlier statement ≡ false) × IsTrue (is_one_too_many earlier statement)
 IsFaultAfter earlier statement (Some _) = ⊥
+
+-- the fault of a statement that stands at this place, if it has one
+abbrev pub IsFaultAt : Place → Statement → Option Fault → Type 0
+IsFaultAt place statement fault = (earlier : List Statement) → IsPlaceAfter earlier place → IsFaultAfter earlier statement fault

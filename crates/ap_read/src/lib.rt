@@ -15,7 +15,8 @@ pub mod reading;
 pub mod statement;
 mod token;
 
-pub use reading::{DESCRIPTION_LIMIT, read};
+pub use ap_desc::limits::DESCRIPTION_LIMIT;
+pub use reading::read;
 
 #[cfg(test)]
 mod tests;

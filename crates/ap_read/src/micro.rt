@@ -1,6 +1,6 @@
+ghost use Rattle.ap_desc.specs.Forms.{compute_in, const_form, form_in, micro_in, plain_micro_in, plain_source_in, read_part_in, read_port_in, read_register_in, sext_form, signed_in, slice_form, source_in, write_part_in, write_register_in, zext_form};
 ghost use Rattle.ap_read.specs.Answers.{Answers};
-ghost use Rattle.ap_read.specs.Forms.{compute_in, const_in, micro_in, plain_micro_in, plain_source_in, read_part_in, read_port_in, read_register_in, sext_in, signed_in, slice_in, source_in, write_part_in, write_register_in, zext_in};
-ghost use Rattle.ap_read.specs.Parts.{texts};
+ghost use Rattle.ap_read.specs.Texts.{texts};
 
 use crate::parts::{guard_in, number_and_word, one_name, one_word, two_numbers, two_words};
 use crate::token::{Unread, cut, is, name_in, number_in, port_in, word_in};
@@ -9,7 +9,7 @@ use ap_desc::Statement;
 use std::alloc::Global;
 
 /// The micro-operation of this stage that the other tokens of its line spell.
-#[tactic(auto, unfolding(crate::specs::Forms::micro_in))]
+#[tactic(auto, unfolding(ap_desc::specs::Forms::micro_in))]
 pub fn micro_operation(alloc: Global, stage: u64, tokens: &[&[u8]]) -> Result<Statement, Unread>
     ensures { Answers result (micro_in stage (texts tokens.now)) }
 {
@@ -23,7 +23,7 @@ pub fn micro_operation(alloc: Global, stage: u64, tokens: &[&[u8]]) -> Result<St
 }
 
 /// A transfer, a write of a register, or what assigns a local.
-#[tactic(auto, unfolding(crate::specs::Forms::plain_micro_in))]
+#[tactic(auto, unfolding(ap_desc::specs::Forms::plain_micro_in))]
 fn plain_micro(alloc: Global, stage: u64, first: &[u8], rest: &[&[u8]]) -> Result<Statement, Unread>
     ensures { Answers result (plain_micro_in stage first.now (texts rest.now)) }
 {
@@ -43,7 +43,7 @@ fn plain_micro(alloc: Global, stage: u64, first: &[u8], rest: &[&[u8]]) -> Resul
 }
 
 /// A name, and then the sign of a write or of a new local.
-#[tactic(auto, unfolding(crate::specs::Forms::signed_in))]
+#[tactic(auto, unfolding(ap_desc::specs::Forms::signed_in))]
 fn signed(alloc: Global, stage: u64, name: &[u8], rest: &[&[u8]]) -> Result<Statement, Unread>
     ensures { Answers result (signed_in stage name.now (texts rest.now)) }
 {
@@ -61,7 +61,7 @@ fn signed(alloc: Global, stage: u64, name: &[u8], rest: &[&[u8]]) -> Result<Stat
 }
 
 /// `S R <- v`, from what stands after the sign.
-#[tactic(auto, unfolding(crate::specs::Forms::write_register_in))]
+#[tactic(auto, unfolding(ap_desc::specs::Forms::write_register_in))]
 fn write_register(
     alloc: Global,
     stage: u64,
@@ -85,7 +85,7 @@ fn write_register(
 }
 
 /// A write of a memory, or through a write port of a file.
-#[tactic(auto, unfolding(crate::specs::Forms::write_part_in))]
+#[tactic(auto, unfolding(ap_desc::specs::Forms::write_part_in))]
 fn write_part(
     alloc: Global,
     stage: u64,
@@ -123,7 +123,7 @@ fn write_part(
 }
 
 /// What is assigned to a local: what stands after `=`.
-#[tactic(auto, unfolding(crate::specs::Forms::source_in))]
+#[tactic(auto, unfolding(ap_desc::specs::Forms::source_in))]
 fn source(alloc: Global, stage: u64, to: Name, tokens: &[&[u8]]) -> Result<Statement, Unread>
     ensures { Answers result (source_in stage to (texts tokens.now)) }
 {
@@ -137,7 +137,7 @@ fn source(alloc: Global, stage: u64, to: Name, tokens: &[&[u8]]) -> Result<State
 }
 
 /// With one operand a read of a memory or through a port of a file, and with two an operation of a unit.
-#[tactic(auto, unfolding(crate::specs::Forms::read_part_in))]
+#[tactic(auto, unfolding(ap_desc::specs::Forms::read_part_in))]
 fn read_part(
     alloc: Global,
     stage: u64,
@@ -156,7 +156,7 @@ fn read_part(
 }
 
 /// `S x = M.read a` or `S x = F.rN i`, from the name, the part after the point and the operand.
-#[tactic(auto, unfolding(crate::specs::Forms::read_port_in))]
+#[tactic(auto, unfolding(ap_desc::specs::Forms::read_port_in))]
 fn read_port(
     alloc: Global,
     stage: u64,
@@ -188,7 +188,7 @@ fn read_port(
 }
 
 /// `S x = U.op a b`, from the name, the part after the point and the operands.
-#[tactic(auto, unfolding(crate::specs::Forms::compute_in))]
+#[tactic(auto, unfolding(ap_desc::specs::Forms::compute_in))]
 fn compute(
     alloc: Global,
     stage: u64,
@@ -213,7 +213,7 @@ fn compute(
 }
 
 /// An input port, a constant, an extension, a slice, two operands side by side, or a register.
-#[tactic(auto, unfolding(crate::specs::Forms::plain_source_in))]
+#[tactic(auto, unfolding(ap_desc::specs::Forms::plain_source_in))]
 fn plain_source(
     alloc: Global,
     stage: u64,
@@ -247,9 +247,8 @@ fn plain_source(
 }
 
 /// `S x = const W V`, from what stands after `const`.
-#[tactic(auto, unfolding(crate::specs::Forms::const_in))]
 fn constant(stage: u64, to: Name, rest: &[&[u8]]) -> Result<Statement, Unread>
-    ensures { Answers result (const_in stage to (texts rest.now)) }
+    ensures { Answers result (form_in (const_form stage to) (texts rest.now)) }
 {
     let (width, value) = two_numbers(rest)?;
     Ok(Statement::Const {
@@ -261,9 +260,8 @@ fn constant(stage: u64, to: Name, rest: &[&[u8]]) -> Result<Statement, Unread>
 }
 
 /// `S x = zext W a`, from what stands after `zext`.
-#[tactic(auto, unfolding(crate::specs::Forms::zext_in))]
 fn zext(alloc: Global, stage: u64, to: Name, rest: &[&[u8]]) -> Result<Statement, Unread>
-    ensures { Answers result (zext_in stage to (texts rest.now)) }
+    ensures { Answers result (form_in (zext_form stage to) (texts rest.now)) }
 {
     let (width, a) = number_and_word(alloc, rest)?;
     Ok(Statement::Zext {
@@ -275,9 +273,8 @@ fn zext(alloc: Global, stage: u64, to: Name, rest: &[&[u8]]) -> Result<Statement
 }
 
 /// `S x = sext W a`, from what stands after `sext`.
-#[tactic(auto, unfolding(crate::specs::Forms::sext_in))]
 fn sext(alloc: Global, stage: u64, to: Name, rest: &[&[u8]]) -> Result<Statement, Unread>
-    ensures { Answers result (sext_in stage to (texts rest.now)) }
+    ensures { Answers result (form_in (sext_form stage to) (texts rest.now)) }
 {
     let (width, a) = number_and_word(alloc, rest)?;
     Ok(Statement::Sext {
@@ -289,9 +286,8 @@ fn sext(alloc: Global, stage: u64, to: Name, rest: &[&[u8]]) -> Result<Statement
 }
 
 /// `S x = slice H L a`, from what stands after `slice`.
-#[tactic(auto, unfolding(crate::specs::Forms::slice_in))]
 fn slice_of(alloc: Global, stage: u64, to: Name, rest: &[&[u8]]) -> Result<Statement, Unread>
-    ensures { Answers result (slice_in stage to (texts rest.now)) }
+    ensures { Answers result (form_in (slice_form stage to) (texts rest.now)) }
 {
     let [high, rest @ ..] = rest else {
         return Err(Unread::NoForm);
@@ -308,7 +304,7 @@ fn slice_of(alloc: Global, stage: u64, to: Name, rest: &[&[u8]]) -> Result<State
 }
 
 /// `S x = R`, after which nothing stands.
-#[tactic(auto, unfolding(crate::specs::Forms::read_register_in))]
+#[tactic(auto, unfolding(ap_desc::specs::Forms::read_register_in))]
 fn read_register(
     alloc: Global,
     stage: u64,

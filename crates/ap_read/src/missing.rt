@@ -21,7 +21,8 @@ pub(crate) fn is_missing_some(text: &[u8], lines: &[Line]) -> bool
 /// Whether no line has these first tokens.
 fn none_begins(text: &[u8], lines: &[Line], words: &[&str]) -> bool
     requires { AreLinesWithin text.now lines.now }
-    ensures { result ≡ faults.none_begins (map (λ word. word.now) words.now) (map (line_in text.now) lines.now) }
+    ensures { result ≡ faults.none_begins (map (λ word. word.now) words.now)
+        (map (line_in text.now) lines.now) }
 {
     for line in lines {
         if begins(text, line, words) {
@@ -34,7 +35,8 @@ fn none_begins(text: &[u8], lines: &[Line], words: &[&str]) -> bool
 /// Whether these are the line's first tokens.
 fn begins(text: &[u8], line: &Line, words: &[&str]) -> bool
     requires { IsLineWithin text.now line.now }
-    ensures { result ≡ faults.begins (map (λ word. word.now) words.now) (line_in text.now line.now) }
+    ensures { result ≡ faults.begins (map (λ word. word.now) words.now)
+        (line_in text.now line.now) }
 {
     if line.tokens.len() < words.len() {
         return false;

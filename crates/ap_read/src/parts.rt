@@ -1,7 +1,8 @@
 ghost use Rattle.std.specs.Prelude.{[], ◌∷◌};
+ghost use Rattle.ap_desc.specs.TokenValues as values;
+ghost use Rattle.ap_desc.specs.TokenValues.{named, numeral, operand, values_in};
 ghost use Rattle.ap_read.specs.Answers.{Answers, SurelyAnswers};
-ghost use Rattle.ap_read.specs.Parts as parts;
-ghost use Rattle.ap_read.specs.Parts.{named, numeral, operand, texts, values_in};
+ghost use Rattle.ap_read.specs.Texts.{texts};
 
 use crate::token::{Unread, field_in, is, name_in, number_in, word_in};
 use ap_bits::{Items, Name};
@@ -75,9 +76,9 @@ pub fn number_and_word(alloc: Global, tokens: &[&[u8]]) -> Result<(u64, Word), U
 }
 
 /// The guard that may end a write.
-#[tactic(auto, unfolding(crate::specs::Parts::guard_in))]
+#[tactic(auto, unfolding(ap_desc::specs::TokenValues::guard_in))]
 pub fn guard_in(alloc: Global, tokens: &[&[u8]]) -> Result<Option<Word>, Unread>
-    ensures { Answers result (parts.guard_in (texts tokens.now)) }
+    ensures { Answers result (values.guard_in (texts tokens.now)) }
 {
     if tokens.is_empty() {
         return Ok(None);
@@ -93,13 +94,13 @@ pub fn guard_in(alloc: Global, tokens: &[&[u8]]) -> Result<Option<Word>, Unread>
 }
 
 /// Fields, one in each token, with this byte between name and number.
-#[tactic(auto, unfolding(crate::specs::Parts::fields_in))]
+#[tactic(auto, unfolding(ap_desc::specs::TokenValues::fields_in))]
 pub fn fields_in(
     alloc: Global,
     tokens: &[&[u8]],
     separator: u8,
 ) -> Result<Items<FieldNumber>, Unread>
-    ensures { Answers result (parts.fields_in separator (texts tokens.now)) }
+    ensures { Answers result (values.fields_in separator (texts tokens.now)) }
 {
     let mut fields = Items::new(alloc);
     for token in tokens {

@@ -1,9 +1,12 @@
-ghost use Rattle.std.specs.Prelude.{◌≡◌, ◌+◌, ◌<◌, ◌^◌, [], List, if◌then◌else◌};
+ghost use Rattle.std.specs.Prelude.{◌≡◌, ◌+◌, ◌<◌, ◌^◌, [], if◌then◌else◌};
 ghost use Rattle.ap_desc.specs.Order as order;
-ghost use Rattle.ap_desc.specs.declared.statement.Statement.{Statement};
 ghost use Rattle.ap_read.specs.Places as places;
-ghost use Rattle.ap_read.specs.Places.{IsFaultAfter, IsPlaceAfter};
+ghost use Rattle.ap_read.specs.Places.{IsFaultAt, IsPlaceAfter};
 
+use ap_desc::limits::{
+    MAX_FIELDS, MAX_FILES, MAX_FORMATS, MAX_INPUTS, MAX_INSTRUCTIONS, MAX_MEMORIES,
+    MAX_MICRO_OPERATIONS, MAX_REGISTERS, MAX_UNITS,
+};
 use ap_desc::{Fault, Statement};
 
 /// The number of the first section that isn't one of the four header statements.
@@ -11,25 +14,6 @@ const FIRST_AFTER_HEADER: u32 = 4;
 
 /// The number of the last section, in which the instructions stand with their lines.
 const LAST_SECTION: u32 = 10;
-
-// The most statements of each sort, fields of a format, and lines of an instruction.
-const REGISTERS: usize = 64;
-
-const FILES: usize = 8;
-
-const MEMORIES: usize = 4;
-
-const INPUTS: usize = 8;
-
-const UNITS: usize = 32;
-
-const FORMATS: usize = 32;
-
-const FIELDS: usize = 16;
-
-const INSTRUCTIONS: usize = 256;
-
-const MICRO_OPERATIONS: usize = 64;
 
 /// Where a description stands after its statements so far, as much of it as says what may follow.
 #[derive(Clone, Copy, Debug)]
@@ -101,7 +85,7 @@ impl Place {
 
     /// The fault of the statement if it stands here: its order is looked at before its number.
     pub(crate) fn fault(&self, statement: &Statement) -> Option<Fault>
-        ensures { (earlier : List Statement) → IsPlaceAfter earlier self.now → IsFaultAfter earlier statement.now result }
+        ensures { IsFaultAt self.now statement.now result }
     {
         if self.is_late(statement) || self.is_misplaced(statement) {
             return Some(Fault::BadOrder);
@@ -152,14 +136,14 @@ impl Place {
     {
         let before = self.count_before(statement);
         match statement {
-            Statement::Reg { .. } => before == REGISTERS,
-            Statement::File { .. } => before == FILES,
-            Statement::Mem { .. } => before == MEMORIES,
-            Statement::In { .. } => before == INPUTS,
-            Statement::Unit { .. } => before == UNITS,
-            Statement::Format { fields, .. } => before == FORMATS || fields.len() > FIELDS,
-            Statement::Instr { .. } => self.instructions == INSTRUCTIONS,
-            _ => is_micro(statement) && self.micros == MICRO_OPERATIONS,
+            Statement::Reg { .. } => before == MAX_REGISTERS,
+            Statement::File { .. } => before == MAX_FILES,
+            Statement::Mem { .. } => before == MAX_MEMORIES,
+            Statement::In { .. } => before == MAX_INPUTS,
+            Statement::Unit { .. } => before == MAX_UNITS,
+            Statement::Format { fields, .. } => before == MAX_FORMATS || fields.len() > MAX_FIELDS,
+            Statement::Instr { .. } => self.instructions == MAX_INSTRUCTIONS,
+            _ => is_micro(statement) && self.micros == MAX_MICRO_OPERATIONS,
         }
     }
 
@@ -183,7 +167,8 @@ impl Place {
 
     fn instructions_after(self, statement: &Statement) -> usize
         requires { self.instructions + 1 < 2 ^ 64 }
-        ensures { result ≡ (if order.is_instr statement.now then self.instructions + 1 else self.instructions) }
+        ensures { result ≡ (if order.is_instr statement.now then self.instructions
+            + 1 else self.instructions) }
     {
         match statement {
             Statement::Instr { .. } => self.instructions + 1,

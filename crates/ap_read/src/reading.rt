@@ -1,33 +1,31 @@
-ghost use Rattle.std.specs.Prelude.{◌≡◌, ◌≤◌, IfErr, IfOk, IsTrue, List, MatchResult, None, [], length, map};
+ghost use Rattle.std.specs.Prelude.{◌≡◌, ◌≤◌, IfErr, IfOk, IsTrue, List, MatchResult, [], length, map};
 ghost use Rattle.ap_text.specs.Spans.{AreLinesWithin, IsLineWithin, bytes_in, line_in};
-ghost use Rattle.ap_desc.specs.Beside.{EachBeside};
+ghost use Rattle.ap_bits.specs.Beside.{EachBeside};
 ghost use Rattle.ap_desc.specs.Descriptions.{IsDescription};
-ghost use Rattle.ap_desc.specs.Faults.{IsWellFormed, description_limit};
+ghost use Rattle.ap_desc.specs.Faults.{IsWellFormed};
 ghost use Rattle.ap_desc.specs.FaultTable.{phase_of};
 ghost use Rattle.ap_desc.specs.Order.{are_in_order};
+ghost use Rattle.ap_desc.specs.Limits.{description_limit};
 ghost use Rattle.ap_desc.specs.Reading.{IsAt, ReadsAs, SpellsLine};
 ghost use Rattle.ap_desc.specs.Shown.{renumbered, shown_text};
 ghost use Rattle.ap_read.specs.ReadFaults.{IsReadFault, IsReadOrMemory};
 ghost use Rattle.ap_desc.specs.declared.description.Numbered.{Numbered as DeclaredNumbered};
-ghost use Rattle.ap_desc.specs.declared.statement.Statement.{Statement as DeclaredStatement};
-ghost use Rattle.ap_read.specs.LineFaults.{IsFaultFirst, IsLineFault, IsSaidAt, IsUnsaid, LinesRise};
-ghost use Rattle.ap_read.specs.Places.{IsFaultAfter, IsPlaceAfter};
+ghost use Rattle.ap_read.specs.LineFaults.{IsLineFault, IsReadAt, IsRefusedAt, IsSaidAt, IsUnsaid, LinesRise};
 
 use crate::missing::is_missing_some;
 use crate::place::Place;
 use crate::statement::statement;
 use ap_bits::{Items, NoMemory};
 use ap_desc::laws::{reading_is_unique, shown_is_read, spelling_is_unique};
+use ap_desc::limits::DESCRIPTION_LIMIT;
 use ap_desc::{DescFault, Description, Fault, Numbered, Refusal, Statement};
 use ap_text::{Line, lines};
 use std::alloc::Global;
 
-/// The most bytes that a description may have.
-pub const DESCRIPTION_LIMIT: usize = 1_048_576;
-
 /// The refusal for a fault of this kind at this line.
 fn refused(kind: Fault, line: u32) -> DescFault
-    ensures { result ≡ DescFault.Refused (record { phase = phase_of kind; line = line; kind = kind }) }
+    ensures { result ≡ DescFault.Refused
+        (record { phase = phase_of kind; line = line; kind = kind }) }
 {
     DescFault::Refused(Refusal {
         phase: kind.phase(),
@@ -39,7 +37,8 @@ fn refused(kind: Fault, line: u32) -> DescFault
 /// The tokens of a line.
 fn tokens<'a>(alloc: Global, text: &'a [u8], line: &Line) -> Result<Vec<&'a [u8]>, NoMemory>
     requires { IsLineWithin text.now line.now }
-    ensures { IfOk result (λ tokens. map (λ token. token.now) tokens.items ≡ map (bytes_in text.now) line.now.tokens) }
+    ensures { IfOk result (λ tokens. map (λ token. token.now) tokens.items
+        ≡ map (bytes_in text.now) line.now.tokens) }
 {
     let mut tokens = Vec::new(alloc);
     for span in line.tokens.as_slice() {
@@ -64,7 +63,8 @@ fn said(alloc: Global, text: &[u8], line: &Line) -> Result<Option<Statement>, No
 /// The statement that a line says. One that says nothing is a bad line.
 fn read_line(alloc: Global, text: &[u8], line: &Line) -> Result<Statement, DescFault>
     requires { IsLineWithin text.now line.now }
-    ensures { MatchResult result (λ statement. SpellsLine statement (line_in text.now line.now)) (IsUnsaid (line_in text.now line.now)) }
+    ensures { MatchResult result (λ statement. SpellsLine statement (line_in text.now line.now))
+        (IsUnsaid (line_in text.now line.now)) }
 {
     match said(alloc, text, line)? {
         Some(statement) => Ok(statement),
@@ -75,8 +75,8 @@ fn read_line(alloc: Global, text: &[u8], line: &Line) -> Result<Statement, DescF
 /// The statement that a line says after those that lead to the place, if the line has no fault there.
 fn read_at(alloc: Global, text: &[u8], line: &Line, place: &Place) -> Result<Statement, DescFault>
     requires { IsLineWithin text.now line.now }
-    ensures ok { IfOk result (λ statement. SpellsLine statement (line_in text.now line.now) × ((earlier : List DeclaredStatement) → IsPlaceAfter earlier place.now → IsFaultAfter earlier statement None)) }
-    ensures err { IfErr result (λ fault. (earlier : List DeclaredStatement) → IsPlaceAfter earlier place.now → IsFaultFirst earlier (line_in text.now line.now) fault) }
+    ensures ok { IfOk result (IsReadAt place.now (line_in text.now line.now)) }
+    ensures err { IfErr result (IsRefusedAt place.now (line_in text.now line.now)) }
 {
     spelling_is_unique();
     let statement = read_line(alloc, text, line)?;
@@ -138,8 +138,12 @@ pub fn read(alloc: Global, text: &[u8]) -> Result<Description, DescFault>
     ensures refused { IfErr result (IsReadFault text.now) }
 
     // A text that reads as a description is read as it, and so is the text that is shown of one: its lines are 1, 2 and so on.
-    ensures described { (statements : List DeclaredNumbered) → IsDescription statements → ReadsAs text.now statements → length text.now ≤ description_limit → IsReadOrMemory statements result }
-    ensures shown { (statements : List DeclaredNumbered) → IsDescription statements → text.now ≡ shown_text statements → length text.now ≤ description_limit → IsReadOrMemory (renumbered 1 statements) result }
+    ensures described { (statements : List DeclaredNumbered) → IsDescription statements
+        → ReadsAs text.now statements → length text.now ≤ description_limit
+        → IsReadOrMemory statements result }
+    ensures shown { (statements : List DeclaredNumbered) → IsDescription statements
+        → text.now ≡ shown_text statements → length text.now ≤ description_limit
+        → IsReadOrMemory (renumbered 1 statements) result }
 {
     spelling_is_unique();
     reading_is_unique();

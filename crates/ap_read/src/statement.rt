@@ -1,14 +1,15 @@
 ghost use Rattle.std.specs.Prelude.{IfOk, map};
+ghost use Rattle.ap_desc.specs.Forms.{statement_in};
 ghost use Rattle.ap_read.specs.Answers.{Answers};
-ghost use Rattle.ap_read.specs.Forms.{statement_in};
-ghost use Rattle.ap_read.specs.Parts.{texts};
 ghost use Rattle.ap_read.specs.SaidBy.{IsSaidBy};
+ghost use Rattle.ap_read.specs.Texts.{texts};
 
 use crate::declaration::declaration;
 use crate::micro::micro_operation;
 use crate::token::Unread;
 use ap_bits::NoMemory;
 use ap_desc::Statement;
+use ap_desc::laws::forms_are_exact;
 use ap_text::number;
 use std::alloc::Global;
 
@@ -16,6 +17,7 @@ use std::alloc::Global;
 pub fn statement(alloc: Global, tokens: &[&[u8]]) -> Result<Option<Statement>, NoMemory>
     ensures said { IfOk result (λ found. IsSaidBy found (map (λ token. token.now) tokens.now)) }
 {
+    forms_are_exact();
     match spelled(alloc, tokens) {
         Ok(statement) => Ok(Some(statement)),
         Err(Unread::NoForm) => Ok(None),
@@ -24,7 +26,7 @@ pub fn statement(alloc: Global, tokens: &[&[u8]]) -> Result<Option<Statement>, N
 }
 
 /// The statement that tokens spell.
-#[tactic(auto, unfolding(crate::specs::Forms::statement_in))]
+#[tactic(auto, unfolding(ap_desc::specs::Forms::statement_in))]
 fn spelled(alloc: Global, tokens: &[&[u8]]) -> Result<Statement, Unread>
     ensures { Answers result (statement_in (texts tokens.now)) }
 {

@@ -1,15 +1,13 @@
 ghost use Rattle.std.specs.Prelude.{◌≡◌, ◌==◌, position, MatchOption};
-ghost use Rattle.std.specs.Char.{is_ascii_alphanumeric};
-ghost use Rattle.std.specs.List.{list_all, list_any};
+ghost use Rattle.std.specs.List.{list_any};
 ghost use Rattle.std.specs.Str.{bytes_eq};
-ghost use Rattle.ap_bits.specs.Names as names;
 ghost use Rattle.ap_desc.specs.Reserved as reserved;
 ghost use Rattle.ap_text.specs.Numbers.{number_value};
+ghost use Rattle.ap_desc.specs.TokenValues as values;
+ghost use Rattle.ap_desc.specs.TokenValues.{cut_on};
 ghost use Rattle.ap_read.specs.Answers.{Answers, SurelyAnswers};
-ghost use Rattle.ap_read.specs.Parts as parts;
-ghost use Rattle.ap_read.specs.Parts.{cut_on, texts};
 
-use ap_bits::Name;
+use ap_bits::{Name, is_name};
 use ap_desc::{FieldNumber, Word};
 use ap_text::number;
 use std::alloc::Global;
@@ -61,39 +59,20 @@ fn is_among(token: &[u8], words: &[&str]) -> bool
     words.iter().any(|word| is(token, word))
 }
 
-/// Whether the first byte is a letter.
-fn starts_with_letter(token: &[u8]) -> bool
-    ensures { result ≡ names.starts_with_letter token.now }
-{
-    match token {
-        [first, ..] => first.is_ascii_alphabetic(),
-        [] => false,
-    }
-}
-
-/// Whether all bytes are letters or digits.
-fn is_alphanumeric(token: &[u8]) -> bool
-    ensures { result ≡ list_all is_ascii_alphanumeric token.now }
-{
-    token.iter().all(|byte| byte.is_ascii_alphanumeric())
-}
-
 /// Whether the token is a name that may be used: of the form of names, and no word of the language.
 fn is_free_name(token: &[u8]) -> bool
     ensures { result ≡ reserved.is_free_name token.now }
 {
-    starts_with_letter(token)
-        && is_alphanumeric(token)
-        && token.len() <= 32
+    is_name(token)
         && !is_among(token, &STATEMENT_WORDS)
         && !is_among(token, &MICRO_WORDS)
         && !is_among(token, &MEMORY_WORDS)
 }
 
 /// The name that a token is.
-#[tactic(auto, unfolding(crate::specs::Parts::name_in))]
+#[tactic(auto, unfolding(ap_desc::specs::TokenValues::name_in))]
 pub fn name_in(alloc: Global, token: &[u8]) -> Result<Name, Unread>
-    ensures { Answers result (parts.name_in token.now) }
+    ensures { Answers result (values.name_in token.now) }
 {
     if !is_free_name(token) {
         return Err(Unread::NoForm);
@@ -109,9 +88,9 @@ pub fn number_in(token: &[u8]) -> Result<u64, Unread>
 }
 
 /// The operand that a token is.
-#[tactic(auto, unfolding(crate::specs::Parts::word_in))]
+#[tactic(auto, unfolding(ap_desc::specs::TokenValues::word_in))]
 pub fn word_in(alloc: Global, token: &[u8]) -> Result<Word, Unread>
-    ensures { Answers result (parts.word_in token.now) }
+    ensures { Answers result (values.word_in token.now) }
 {
     if is(token, "pc") {
         return Ok(Word::Pc);
@@ -131,18 +110,19 @@ fn place_of(token: &[u8], byte: u8) -> Option<usize>
 }
 
 /// What stands before the first byte that is this one, and what stands after it.
-#[tactic(auto, unfolding(crate::specs::Parts::cut_on))]
+#[tactic(auto, unfolding(ap_desc::specs::TokenValues::cut_on))]
 pub fn cut(token: &[u8], byte: u8) -> Option<(&[u8], &[u8])>
-    ensures { MatchOption result (cut_on byte token.now ≡ None) (λ cut. cut_on byte token.now ≡ Some (cut.0.now, cut.1.now)) }
+    ensures { MatchOption result (cut_on byte token.now ≡ None)
+        (λ cut. cut_on byte token.now ≡ Some (cut.0.now, cut.1.now)) }
 {
     let place = place_of(token, byte)?;
     Some((&token[..place], &token[place + 1..]))
 }
 
 /// The number of a port: what stands after the point is this letter and one digit.
-#[tactic(auto, unfolding(crate::specs::Parts::port_in))]
+#[tactic(auto, unfolding(ap_desc::specs::TokenValues::port_in))]
 pub fn port_in(part: &[u8], letter: u8) -> Result<u64, Unread>
-    ensures { SurelyAnswers result (parts.port_in letter part.now) }
+    ensures { SurelyAnswers result (values.port_in letter part.now) }
 {
     let [first, digit] = part else {
         return Err(Unread::NoForm);
@@ -155,9 +135,9 @@ pub fn port_in(part: &[u8], letter: u8) -> Result<u64, Unread>
 }
 
 /// The field that a token is: a name and a number around this byte.
-#[tactic(auto, unfolding(crate::specs::Parts::field_in))]
+#[tactic(auto, unfolding(ap_desc::specs::TokenValues::field_in))]
 pub fn field_in(alloc: Global, token: &[u8], separator: u8) -> Result<FieldNumber, Unread>
-    ensures { Answers result (parts.field_in separator token.now) }
+    ensures { Answers result (values.field_in separator token.now) }
 {
     let Some((name, digits)) = cut(token, separator) else {
         return Err(Unread::NoForm);

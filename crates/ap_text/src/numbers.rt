@@ -16,9 +16,11 @@ pub enum NumberFault {
 /// above 2^64 - 1. It takes no memory.
 #[tactic(auto, unfolding(crate::specs::Numbers::spelled_value, crate::specs::Numbers::number_value))]
 pub fn number(token: &[u8]) -> Result<u64, NumberFault>
-    ensures value { MatchResult result (λ v. number_value token.now ≡ Some v) (λ _. number_value token.now ≡ None) }
+    ensures value { MatchResult result (λ v. number_value token.now ≡ Some v)
+        (λ _. number_value token.now ≡ None) }
     ensures bad_number { (result ≡ Err NumberFault.BadNumber) ↔ (spelled_value token.now ≡ None) }
-    ensures too_large { (result ≡ Err NumberFault.TooLarge) ↔ IsSomeAnd (spelled_value token.now) (λ v. 2 ^ 64 ≤ v) }
+    ensures too_large { (result ≡ Err NumberFault.TooLarge)
+        ↔ IsSomeAnd (spelled_value token.now) (λ v. 2 ^ 64 ≤ v) }
 {
     match token {
         [b'0', b'x', digits @ ..] => value(digits, 16),
@@ -30,7 +32,8 @@ pub fn number(token: &[u8]) -> Result<u64, NumberFault>
 fn value(digits: &[u8], base: u32) -> Result<u64, NumberFault>
     requires low { 2 ≤ base }
     requires high { base ≤ 16 }
-    ensures { MatchOption (digits_in base digits.now) (result ≡ Err NumberFault.BadNumber) (λ v. (v < 2 ^ 64 → result ≡ Ok v) × (2 ^ 64 ≤ v → result ≡ Err NumberFault.TooLarge)) }
+    ensures { MatchOption (digits_in base digits.now) (result ≡ Err NumberFault.BadNumber)
+        (λ v. (v < 2 ^ 64 → result ≡ Ok v) × (2 ^ 64 ≤ v → result ≡ Err NumberFault.TooLarge)) }
 {
     if digits.is_empty() {
         return Err(NumberFault::BadNumber);

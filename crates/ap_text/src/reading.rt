@@ -41,7 +41,8 @@ pub fn lines(alloc: Global, text: &[u8]) -> Result<LineList, NoMemory>
 /// The line that is this part of the text.
 fn read_line(alloc: Global, text: &[u8], part: Span, number: u32) -> Result<Line, NoMemory>
     requires { IsWithin text.now part }
-    ensures line { IfOk result (λ line. line_in text.now line ≡ text_line number (bytes_in text.now part)) }
+    ensures line { IfOk result (λ line. line_in text.now line
+        ≡ text_line number (bytes_in text.now part)) }
     ensures within { IfOk result (λ line. IsLineWithin text.now line) }
 {
     let tokens = tokens(alloc, text, part)?;
@@ -66,7 +67,8 @@ fn add_line(list: &mut LineList, line: Line) -> Result<(), NoMemory>
 /// The tokens of a line that is this part of the text.
 fn tokens(alloc: Global, text: &[u8], line: Span) -> Result<SpanList, NoMemory>
     requires { IsWithin text.now line }
-    ensures tokens { IfOk result (λ spans. map (bytes_in text.now) spans ≡ tokens_of (bytes_in text.now line)) }
+    ensures tokens { IfOk result (λ spans. map (bytes_in text.now) spans
+        ≡ tokens_of (bytes_in text.now line)) }
     ensures within { IfOk result (λ spans. All (IsWithin text.now) spans) }
 {
     let code = before_comment(text, line);
@@ -96,7 +98,8 @@ fn add_token(spans: &mut SpanList, part: Span) -> Result<(), NoMemory>
 fn before_comment(text: &[u8], line: Span) -> Span
     requires { IsWithin text.now line }
     ensures within { IsWithin text.now result }
-    ensures bytes { bytes_in text.now result ≡ before_first is_comment_sign (bytes_in text.now line) }
+    ensures bytes { bytes_in text.now result
+        ≡ before_first is_comment_sign (bytes_in text.now line) }
 {
     let bytes = line.of(text);
     let len = comment_place(bytes).unwrap_or(bytes.len());

@@ -12,19 +12,23 @@ use std::test::Fail;
 /// Blank lines and comments are skipped, and counted.
 #[tactic(auto, unfolding(crate::specs::Lines::lines_of))]
 fn skips()
-    ensures { lines_of (codes "a b # c\n\n\tx\n") ≡ record { number = 1; tokens = codes "a" ∷ codes "b" ∷ []; clean = true } ∷ record { number = 3; tokens = codes "x" ∷ []; clean = true } ∷ [] }
+    ensures { lines_of (codes "a b # c\n\n\tx\n")
+        ≡ record { number = 1; tokens = codes "a" ∷ codes "b" ∷ []; clean = true }
+        ∷ record { number = 3; tokens = codes "x" ∷ []; clean = true } ∷ [] }
 {}
 
 /// A carriage return belongs to its token, and its line isn't clean.
 #[tactic(auto, unfolding(crate::specs::Lines::lines_of))]
 fn keeps_carriage_return()
-    ensures { lines_of (codes "end\r\n") ≡ record { number = 1; tokens = codes "end\r" ∷ []; clean = false } ∷ [] }
+    ensures { lines_of (codes "end\r\n")
+        ≡ record { number = 1; tokens = codes "end\r" ∷ []; clean = false } ∷ [] }
 {}
 
 /// A line with a bad byte in its comment stands in the list.
 #[tactic(auto, unfolding(crate::specs::Lines::lines_of))]
 fn keeps_bad_comment()
-    ensures { lines_of (codes "\n #\r\n# fine") ≡ record { number = 2; tokens = []; clean = false } ∷ [] }
+    ensures { lines_of (codes "\n #\r\n# fine")
+        ≡ record { number = 2; tokens = []; clean = false } ∷ [] }
 {}
 
 /// Digits of either case, and leading zeros.

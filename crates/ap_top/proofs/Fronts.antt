@@ -14,7 +14,8 @@ use Rattle.ap_text.proofs.Laws.{get_or-map-line_in}
 use Rattle.ap_top.specs.declared.form.Form.{Form}
 use Rattle.ap_top.specs.declared.pattern.Letter.TheVariants.{Start, Width}
 use Rattle.ap_top.specs.declared.pattern.Piece.{Piece}
-use Rattle.ap_top.specs.Form.{AreFirstLines, AreLines, BeginForm, EachBeside, HasAddition, HasUnit, IsForm, IsLine, IsNotBuiltAt, IsToken, Token, exactly, first_form, numbered}
+use Rattle.ap_bits.specs.Beside.{EachBeside}
+use Rattle.ap_top.specs.Form.{AreFirstLines, AreLines, BeginForm, HasAddition, HasUnit, IsForm, IsLine, IsNotBuiltAt, IsToken, Token, exactly, first_form, numbered}
 use Rattle.ap_top.specs.Found.{Agrees, IsServed, TakesFitting, token_of}
 use Rattle.ap_top.proofs.Matching.{lengths_of}
 use Rattle.ap_top.proofs.Words.{rest_from}

@@ -7,7 +7,8 @@ use Rattle.ap_text.specs.Lines.{TextLine, lines_of}
 use Rattle.ap_desc.specs.declared.fault.Fault.{Fault}
 use Rattle.ap_desc.specs.declared.fault.Fault.TheVariants as f
 use Rattle.ap_desc.specs.Faults as faults
-use Rattle.ap_desc.specs.Faults.{IsWellFormed, IsLeastFormFault, description_limit}
+use Rattle.ap_desc.specs.Limits.{description_limit}
+use Rattle.ap_desc.specs.Faults.{IsWellFormed, IsLeastFormFault}
 use Rattle.ap_desk.specs.Files.{Becomes, BecomesFrontOrStays, Files, Goes, ReadsUpTo, content}
 use Rattle.ap_top.specs.declared.command.Command.{Command}
 use Rattle.ap_top.specs.declared.command.Command.TheVariants.{Gen}

@@ -6,7 +6,8 @@ use Rattle.std.proofs.lemmas.List.{drop_all, append_cancel_left, get_or-map}
 use Rattle.ap_text.specs.Numbers.{number_value}
 use Rattle.ap_top.specs.declared.form.Form.{Form}
 use Rattle.ap_top.specs.declared.pattern.Letter.{Letter}
-use Rattle.ap_top.specs.Form.{tagged, IsToken, EachBeside, value_of}
+use Rattle.ap_bits.specs.Beside.{EachBeside}
+use Rattle.ap_top.specs.Form.{tagged, IsToken, value_of}
 use Rattle.ap_top.specs.declared.pattern.Piece.{Piece}
 use Rattle.ap_top.specs.declared.pattern.Piece.TheVariants.{Tagged}
 use Rattle.ap_top.specs.Found.{Agrees, Takes, token_of}

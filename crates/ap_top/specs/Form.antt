@@ -1,6 +1,7 @@
 -- The one form of description that is built today: fifteen lines in which six letters stand for numbers, over a shelf whose kind
 -- `alu` has the operation `add`.
 use Rattle.std.specs.Prelude.{◌≡◌, ◌⊎◌, ℕ, ◌≤◌, ◌<◌, ◌^◌, List, [], ◌∷◌, ◌++◌, length, take, codes, IsTrue, Some}
+use Rattle.ap_bits.specs.Beside.{EachBeside}
 use Rattle.ap_bits.specs.declared.card.Card.{Card}
 use Rattle.ap_text.specs.Lines.{TextLine, lines_of}
 use Rattle.ap_text.specs.Numbers.{number_value}
@@ -66,13 +67,6 @@ first_form =
 abbrev pub IsToken : Form → Token → List ℕ → Type 0
 IsToken form (exactly bytes) token = token ≡ bytes
 IsToken form (tagged bytes letter) token = (digits : List ℕ) × (token ≡ bytes ++ digits) × (number_value digits ≡ Some (value_of form letter))
-
--- this holds of each two that stand beside each other, and neither list is longer
-abbrev pub EachBeside : {X Y : Type 0} → (X → Y → Type 0) → List X → List Y → Type 0
-EachBeside R [] [] = Unit {0}
-EachBeside R [] (y ∷ ys) = ⊥
-EachBeside R (x ∷ xs) [] = ⊥
-EachBeside R (x ∷ xs) (y ∷ ys) = R x y × EachBeside R xs ys
 
 -- the line isn't bad, and its tokens are those due
 abbrev pub IsLine : Form → List Token → TextLine → Type 0

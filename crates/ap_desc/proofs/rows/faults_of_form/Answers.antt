@@ -1,9 +1,10 @@
 use Rattle.std.proofs.Common.{refl, lit≤, [], ◌∷◌, true}
 use Rattle.std.specs.Prelude.{codes}
-use Rattle.ap_text.specs.Lines.{lines_of}
+use Rattle.ap_text.specs.Lines.{TextLine, lines_of}
 use Rattle.ap_text.specs.Numbers.{number_value, spelled_value}
 use Rattle.ap_desc.specs.declared.statement.Statement.TheVariants as s
-use Rattle.ap_desc.proofs.NotSpelled.{no_stages}
+use Rattle.ap_desc.specs.Forms.{statement_in, declaration_in}
+use Rattle.ap_desc.proofs.NotSpelled.{says_none}
 use Rattle.ap_desc.proofs.rows.faults_of_form.Goals as goal
 
 pub returns-clause-stray_end : goal.returns-clause-stray_end
@@ -17,8 +18,8 @@ returns-clause-stray_end c = (
       before = record { number = 1; tokens = codes "stages" ∷ codes "2" ∷ []; clean = true } ∷ [];
       line = record { number = 2; tokens = codes "end" ∷ []; clean = true };
       place = record { after = []; parts = refl; numbered = refl };
-      said = (record { clean = refl; spells = record { spellable = record { names = refl; numbers = refl; formed = refl }; spelled = (refl, ((codes "2", refl, refl), tt)) } }, tt);
-      says = record { clean = refl; spells = record { spellable = record { names = refl; numbers = refl; formed = refl }; spelled = (refl, tt) } };
+      said = (record { clean = refl; spells = record { spellable = record { pieces = refl }; spelled = (refl, ((codes "2", refl, refl), tt)) } }, tt);
+      says = record { clean = refl; spells = record { spellable = record { pieces = refl }; spelled = (refl, tt) } };
     },
     refl,
   ),
@@ -35,8 +36,8 @@ returns-clause-second_header c = (
       before = record { number = 1; tokens = codes "stages" ∷ codes "2" ∷ []; clean = true } ∷ [];
       line = record { number = 3; tokens = codes "stages" ∷ codes "0x2" ∷ []; clean = true };
       place = record { after = []; parts = refl; numbered = refl };
-      said = (record { clean = refl; spells = record { spellable = record { names = refl; numbers = refl; formed = refl }; spelled = (refl, ((codes "2", refl, refl), tt)) } }, tt);
-      says = record { clean = refl; spells = record { spellable = record { names = refl; numbers = refl; formed = refl }; spelled = (refl, ((codes "0x2", refl, refl), tt)) } };
+      said = (record { clean = refl; spells = record { spellable = record { pieces = refl }; spelled = (refl, ((codes "2", refl, refl), tt)) } }, tt);
+      says = record { clean = refl; spells = record { spellable = record { pieces = refl }; spelled = (refl, ((codes "0x2", refl, refl), tt)) } };
     },
     refl,
   ),
@@ -53,13 +54,15 @@ returns-clause-too_many c = (
       before = record { number = 1; tokens = codes "mem" ∷ codes "A" ∷ codes "1" ∷ codes "1" ∷ []; clean = true } ∷ record { number = 2; tokens = codes "mem" ∷ codes "B" ∷ codes "1" ∷ codes "1" ∷ []; clean = true } ∷ record { number = 3; tokens = codes "mem" ∷ codes "C" ∷ codes "1" ∷ codes "1" ∷ []; clean = true } ∷ record { number = 4; tokens = codes "mem" ∷ codes "D" ∷ codes "1" ∷ codes "1" ∷ []; clean = true } ∷ [];
       line = record { number = 5; tokens = codes "mem" ∷ codes "E" ∷ codes "1" ∷ codes "1" ∷ []; clean = true };
       place = record { after = []; parts = refl; numbered = refl };
-      said = (record { clean = refl; spells = record { spellable = record { names = refl; numbers = refl; formed = refl }; spelled = (refl, (refl, ((codes "1", refl, refl), ((codes "1", refl, refl), tt)))) } }, (record { clean = refl; spells = record { spellable = record { names = refl; numbers = refl; formed = refl }; spelled = (refl, (refl, ((codes "1", refl, refl), ((codes "1", refl, refl), tt)))) } }, (record { clean = refl; spells = record { spellable = record { names = refl; numbers = refl; formed = refl }; spelled = (refl, (refl, ((codes "1", refl, refl), ((codes "1", refl, refl), tt)))) } }, (record { clean = refl; spells = record { spellable = record { names = refl; numbers = refl; formed = refl }; spelled = (refl, (refl, ((codes "1", refl, refl), ((codes "1", refl, refl), tt)))) } }, tt))));
-      says = record { clean = refl; spells = record { spellable = record { names = refl; numbers = refl; formed = refl }; spelled = (refl, (refl, ((codes "1", refl, refl), ((codes "1", refl, refl), tt)))) } };
+      said = (record { clean = refl; spells = record { spellable = record { pieces = refl }; spelled = (refl, (refl, ((codes "1", refl, refl), ((codes "1", refl, refl), tt)))) } }, (record { clean = refl; spells = record { spellable = record { pieces = refl }; spelled = (refl, (refl, ((codes "1", refl, refl), ((codes "1", refl, refl), tt)))) } }, (record { clean = refl; spells = record { spellable = record { pieces = refl }; spelled = (refl, (refl, ((codes "1", refl, refl), ((codes "1", refl, refl), tt)))) } }, (record { clean = refl; spells = record { spellable = record { pieces = refl }; spelled = (refl, (refl, ((codes "1", refl, refl), ((codes "1", refl, refl), tt)))) } }, tt))));
+      says = record { clean = refl; spells = record { spellable = record { pieces = refl }; spelled = (refl, (refl, ((codes "1", refl, refl), ((codes "1", refl, refl), tt)))) } };
     },
     refl,
   ),
 )
 
 pub returns-clause-no_number : goal.returns-clause-no_number
-unfolding lines_of number_value spelled_value
-returns-clause-no_number c = (lit≤ tt, ([], record { number = 1; tokens = codes "stages" ∷ codes "two" ∷ []; clean = true }, record { after = []; parts = refl; numbered = refl }, λ statement h. no_stages statement (codes "two") refl h.spells.spelled))
+unfolding lines_of number_value spelled_value statement_in declaration_in
+returns-clause-no_number c =
+    let line : TextLine = record { number = 1; tokens = codes "stages" ∷ codes "two" ∷ []; clean = true } in
+    (lit≤ tt, ([], line, record { after = []; parts = refl; numbered = refl }, says_none line refl))

@@ -8,19 +8,19 @@ pub returns-clause-reads : goal.returns-clause-reads
 unfolding lines_of number_value spelled_value
 returns-clause-reads c = record {
   lines = (
-    record { number = refl; spells = record { clean = refl; spells = record { spellable = record { names = refl; numbers = refl; formed = refl }; spelled = (refl, ((codes "2", refl, refl), tt)) } } },
+    record { number = refl; spells = record { clean = refl; spells = record { spellable = record { pieces = refl }; spelled = (refl, ((codes "2", refl, refl), tt)) } } },
     (
-      record { number = refl; spells = record { clean = refl; spells = record { spellable = record { names = refl; numbers = refl; formed = refl }; spelled = (refl, ((codes "4", refl, refl), tt)) } } },
+      record { number = refl; spells = record { clean = refl; spells = record { spellable = record { pieces = refl }; spelled = (refl, ((codes "4", refl, refl), tt)) } } },
       (
-        record { number = refl; spells = record { clean = refl; spells = record { spellable = record { names = refl; numbers = refl; formed = refl }; spelled = (refl, ((codes "8", refl, refl), tt)) } } },
+        record { number = refl; spells = record { clean = refl; spells = record { spellable = record { pieces = refl }; spelled = (refl, ((codes "8", refl, refl), tt)) } } },
         (
-          record { number = refl; spells = record { clean = refl; spells = record { spellable = record { names = refl; numbers = refl; formed = refl }; spelled = (refl, ((codes "1", refl, refl), ((codes "0", refl, refl), tt))) } } },
+          record { number = refl; spells = record { clean = refl; spells = record { spellable = record { pieces = refl }; spelled = (refl, ((codes "1", refl, refl), ((codes "0", refl, refl), tt))) } } },
           (
-            record { number = refl; spells = record { clean = refl; spells = record { spellable = record { names = refl; numbers = refl; formed = refl }; spelled = (refl, (refl, ((codes "8", refl, refl), tt))) } } },
+            record { number = refl; spells = record { clean = refl; spells = record { spellable = record { pieces = refl }; spelled = (refl, (refl, ((codes "8", refl, refl), tt))) } } },
             (
-              record { number = refl; spells = record { clean = refl; spells = record { spellable = record { names = refl; numbers = refl; formed = refl }; spelled = (refl, (refl, (refl, ((codes "0", refl, refl), tt)))) } } },
+              record { number = refl; spells = record { clean = refl; spells = record { spellable = record { pieces = refl }; spelled = (refl, (refl, (refl, ((codes "0", refl, refl), tt)))) } } },
               (
-                record { number = refl; spells = record { clean = refl; spells = record { spellable = record { names = refl; numbers = refl; formed = refl }; spelled = (refl, tt) } } },
+                record { number = refl; spells = record { clean = refl; spells = record { spellable = record { pieces = refl }; spelled = (refl, tt) } } },
                 tt,
               ),
             ),

@@ -1,5 +1,6 @@
 use Rattle.std.proofs.Common.{◌≡◌, ◌++◌, option_map, drop}
-use Rattle.ap_read.specs.Parts.{fields_in, texts}
+use Rattle.ap_desc.specs.TokenValues.{fields_in}
+use Rattle.ap_read.specs.Texts.{texts}
 use Rattle.ap_read.proofs.parts.fields_in.Given as goal
 
 -- the fields so far and those of the tokens left are those of all

@@ -1,6 +1,6 @@
 use Rattle.std.proofs.Common.{◌≡◌, [], map, take, true}
 use Rattle.ap_text.specs.Spans.{line_in}
-use Rattle.ap_desc.specs.Beside.{EachBeside}
+use Rattle.ap_bits.specs.Beside.{EachBeside}
 use Rattle.ap_desc.specs.Order.{are_in_order}
 use Rattle.ap_desc.specs.Reading.{IsAt}
 use Rattle.ap_read.specs.Places.{IsPlaceAfter}

@@ -3,7 +3,7 @@ use Rattle.std.proofs.lemmas.Result.{err_from_is_err_and}
 use Rattle.ap_text.specs.declared.line.Line.{Line}
 use Rattle.ap_text.specs.Lines.{TextLine, lines_of}
 use Rattle.ap_text.specs.Spans.{line_in}
-use Rattle.ap_desc.specs.Beside.{EachBeside}
+use Rattle.ap_bits.specs.Beside.{EachBeside}
 use Rattle.ap_desc.specs.Faults.{is_missing_some}
 use Rattle.ap_desc.specs.Reading.{IsAt}
 use Rattle.ap_read.specs.ReadFaults.{IsReadFault}

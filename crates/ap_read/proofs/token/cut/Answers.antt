@@ -1,6 +1,6 @@
 use Rattle.std.proofs.Common.{◌≡◌, ◌+◌, Some, take, drop, sym, arith}
 use Rattle.std.proofs.lemmas.Grind.{common_steps}
-use Rattle.ap_read.specs.Parts.{cut_on}
+use Rattle.ap_desc.specs.TokenValues.{cut_on}
 use Rattle.ap_read.proofs.Cuts.{cut_on-some, cut_on-none}
 use Rattle.ap_read.proofs.token.cut.Goals as goal
 

@@ -9,16 +9,16 @@ use Rattle.std.proofs.lemmas.Bool.{and_parts, and_from, eqb-true}
 use Rattle.std.proofs.lemmas.Option.{cond_some}
 use Rattle.ap_bits.specs.Names.{is_name, starts_with_letter}
 use Rattle.ap_desc.specs.Reserved.{is_free_name, is_among, statement_words, micro_words, memory_words}
-use Rattle.ap_read.specs.Parts.{name_in}
+use Rattle.ap_desc.specs.TokenValues.{name_in}
 
-free_is_name : (name : List ℕ) → is_free_name name ≡ true → is_name name ≡ true
+pub free_is_name : (name : List ℕ) → is_free_name name ≡ true → is_name name ≡ true
 free_is_name name h =
     let a = and_parts (is_name name && not (is_among name statement_words) && not (is_among name micro_words)) (not (is_among name memory_words)) h in
     let b = and_parts (is_name name && not (is_among name statement_words)) (not (is_among name micro_words)) a.0 in
     (and_parts (is_name name) (not (is_among name statement_words)) b.0).0
 
 -- the bytes of a name are letters and digits
-free_letters : (name : List ℕ) → is_free_name name ≡ true → list_all is_ascii_alphanumeric name ≡ true
+pub free_letters : (name : List ℕ) → is_free_name name ≡ true → list_all is_ascii_alphanumeric name ≡ true
 free_letters name h =
     let a = and_parts (starts_with_letter name && list_all is_ascii_alphanumeric name) (nat_le (length name) 32) (free_is_name name h) in
     (and_parts (starts_with_letter name) (list_all is_ascii_alphanumeric name) a.0).1

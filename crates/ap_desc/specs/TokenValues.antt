@@ -1,18 +1,12 @@
--- What single tokens give, and what the tokens of a few parts in a row give. That these are the parts of which statements are
--- spelled is proved where the statement is put together.
-use Rattle.std.specs.Prelude.{ℕ, ◌==◌, ◌&&◌, List, [], ◌∷◌, Option, Some, None, option_map, codes, if◌then◌else◌, map}
+-- What single tokens give, and what the tokens of a few parts in a row give.
+use Rattle.std.specs.Prelude.{ℕ, ◌==◌, ◌&&◌, List, [], ◌∷◌, Option, Some, None, option_map, codes, if◌then◌else◌}
 use Rattle.std.specs.Char.{is_digit, digit_value}
 use Rattle.std.specs.Str.{bytes_eq}
-use Rattle.std.specs.Borrow.{Bor}
 use Rattle.ap_text.specs.Numbers.{number_value}
 use Rattle.ap_desc.specs.declared.statement.FieldNumber.{FieldNumber}
 use Rattle.ap_desc.specs.declared.statement.Word.{Word}
 use Rattle.ap_desc.specs.declared.statement.Word.TheVariants.{Pc, Link, Named}
 use Rattle.ap_desc.specs.Reserved.{is_free_name}
-
--- the bytes of tokens
-abbrev pub texts : List (Bor (List ℕ)) → List (List ℕ)
-texts tokens = map (λ token. token.now) tokens
 
 -- the name that a token is
 unfoldable pub name_in : List ℕ → Option (List ℕ)
@@ -68,34 +62,55 @@ unfoldable pub fields_in : ℕ → List (List ℕ) → Option (List FieldNumber)
 fields_in separator [] = Some []
 fields_in separator (token ∷ tokens) = option_map (λ v. v.0 ∷ v.1) (beside (field_in separator token) (fields_in separator tokens))
 
--- a part of a statement that is one token
+-- a part of a statement: one token, or the fields that end it
 pub data Part : Type 0 where
   named : Part
   numeral : Part
   operand : Part
+  widths : Part
+  settings : Part
 
 abbrev pub Value : Part → Type 0
 Value named = List ℕ
 Value numeral = ℕ
 Value operand = Word
+Value widths = List FieldNumber
+Value settings = List FieldNumber
 
--- what a token gives as this part
+-- what one token gives as this part
 abbrev pub part_value : (part : Part) → List ℕ → Option (Value part)
 part_value named token = name_in token
 part_value numeral token = number_value token
 part_value operand token = word_in token
+part_value widths token = None
+part_value settings token = None
+
+abbrev pub only_in : (part : Part) → List (List ℕ) → Option (Value part)
+only_in part [] = None
+only_in part (token ∷ []) = part_value part token
+only_in part (token ∷ more ∷ tokens) = None
+
+abbrev pub some_in : ℕ → List (List ℕ) → Option (List FieldNumber)
+some_in separator [] = None
+some_in separator (token ∷ tokens) = fields_in separator (token ∷ tokens)
+
+-- what the last tokens give as this part: of widths there is at least one
+abbrev pub last_in : (part : Part) → List (List ℕ) → Option (Value part)
+last_in named tokens = only_in named tokens
+last_in numeral tokens = only_in numeral tokens
+last_in operand tokens = only_in operand tokens
+last_in widths tokens = some_in 58 tokens
+last_in settings tokens = fields_in 61 tokens
 
 abbrev pub Values : List Part → Type 0
 Values [] = Unit {0}
 Values (part ∷ []) = Value part
 Values (part ∷ next ∷ parts) = Value part × Values (next ∷ parts)
 
--- what tokens give as these parts, one token for each
+-- what tokens give as these parts
 abbrev pub values_in : (parts : List Part) → List (List ℕ) → Option (Values parts)
 values_in [] [] = Some tt
 values_in [] (token ∷ tokens) = None
-values_in (part ∷ []) [] = None
-values_in (part ∷ []) (token ∷ []) = part_value part token
-values_in (part ∷ []) (token ∷ more ∷ tokens) = None
+values_in (part ∷ []) tokens = last_in part tokens
 values_in (part ∷ next ∷ parts) [] = None
 values_in (part ∷ next ∷ parts) (token ∷ tokens) = beside (part_value part token) (values_in (next ∷ parts) tokens)

@@ -4,19 +4,17 @@ use Rattle.std.specs.Prelude.{codes, nat_lt, option_map, if◌then◌else◌}
 use Rattle.std.specs.Char.{is_digit, digit_value}
 use Rattle.std.specs.Cmp.Lexicographic.{bytes_decides}
 use Rattle.std.specs.Fmt.{decimal}
-use Rattle.std.specs.List.{list_all}
 use Rattle.std.specs.Str.{bytes_eq}
-use Rattle.std.proofs.lemmas.Bool.{and_parts, and_from, eqb-true, eq-eqb, ltb-true}
+use Rattle.std.proofs.lemmas.Bool.{and_parts, eqb-true, eq-eqb, ltb-true}
 use Rattle.std.proofs.lemmas.Bool.Decides.{nat_tests}
 use Rattle.std.proofs.lemmas.Fmt.{decimal_digit}
 use Rattle.std.proofs.lemmas.Option.{cond_some, same_Some}
 use Rattle.ap_text.specs.Numbers.{number_value, if_fits, spelled_value}
 use Rattle.ap_desc.specs.declared.statement.Word.{Word}
 use Rattle.ap_desc.specs.declared.statement.Word.TheVariants.{Pc, Link, Named}
-use Rattle.ap_desc.specs.Reserved.{is_free_name}
-use Rattle.ap_desc.specs.Spelling.{word_text, word_names}
-use Rattle.ap_read.specs.Parts.{name_in, word_in, cut_on, led_by, port_in, beside}
-use Rattle.ap_read.proofs.Names.{unlike, is_without, name_from, name_to}
+use Rattle.ap_desc.specs.Spelling.{is_free_word, word_text}
+use Rattle.ap_desc.specs.TokenValues.{name_in, word_in, cut_on, led_by, port_in, beside}
+use Rattle.ap_desc.proofs.FreeNames.{unlike, is_without, name_from, name_to}
 
 -- what is known of two values that are both there
 pub beside_some : {A B P : Type 0} (a : Option A) (b : Option B) (v : A × B) → beside a b ≡ Some v → (a ≡ Some v.0 → b ≡ Some v.1 → P) → P
@@ -51,26 +49,24 @@ pub same_bytes : (a b : List ℕ) → bytes_eq a b ≡ true → a ≡ b
 same_bytes a b e = (bytes_decides a b).0 e
 
 -- an operand is spelled by its text, and its name may be used
-pub word_from : (token : List ℕ) (word : Word) → word_in token ≡ Some word → (list_all is_free_name (word_names word) ≡ true) × (token ≡ word_text word)
+pub word_from : (token : List ℕ) (word : Word) → word_in token ≡ Some word → (is_free_word word ≡ true) × (token ≡ word_text word)
 unfolding word_in
 word_from token word h =
-    choose {P = (list_all is_free_name (word_names word) ≡ true) × (token ≡ word_text word)} (bytes_eq token (codes "pc")) (Some Pc) _ (Some word) h
+    choose {P = (is_free_word word ≡ true) × (token ≡ word_text word)} (bytes_eq token (codes "pc")) (Some Pc) _ (Some word) h
     (λ e f. let q : Pc ≡ word = same_Some Pc word f in
-    subst (λ w. (list_all is_free_name (word_names w) ≡ true) × (token ≡ word_text w)) q (refl, same_bytes token (codes "pc") e))
+    subst (λ w. (is_free_word w ≡ true) × (token ≡ word_text w)) q (refl, same_bytes token (codes "pc") e))
     (λ _ f. choose (bytes_eq token (codes "link")) (Some Link) (option_map Named (name_in token)) (Some word) f
     (λ e f. let q : Link ≡ word = same_Some Link word f in
-    subst (λ w. (list_all is_free_name (word_names w) ≡ true) × (token ≡ word_text w)) q (refl, same_bytes token (codes "link") e))
+    subst (λ w. (is_free_word w ≡ true) × (token ≡ word_text w)) q (refl, same_bytes token (codes "link") e))
     (λ _ f. map_some Named (name_in token) word f (λ name e q.
     let a = name_from token name e in
-    subst (λ w. (list_all is_free_name (word_names w) ≡ true) × (token ≡ word_text w)) q (and_from (is_free_name name) true a.0 refl, a.1))))
+    subst (λ w. (is_free_word w ≡ true) × (token ≡ word_text w)) q (a.0, a.1))))
 
-pub word_to : (word : Word) → list_all is_free_name (word_names word) ≡ true → word_in (word_text word) ≡ Some word
+pub word_to : (word : Word) → is_free_word word ≡ true → word_in (word_text word) ≡ Some word
 unfolding word_in
 word_to Pc h = refl
 word_to Link h = refl
-word_to (Named name) h =
-    let free = (and_parts (is_free_name name) true h).0 in
-    rw (unlike name (codes "pc") free refl, unlike name (codes "link") free refl, name_to name free) refl
+word_to (Named name) h = rw (unlike name (codes "pc") h refl, unlike name (codes "link") h refl, name_to name h) refl
 
 failed : (b : Bool) → not b ≡ true → b ≡ false
 failed true h = cc
