@@ -8,7 +8,7 @@ use Rattle.ap_model.specs.declared.state.Flight.{Flight}
 use Rattle.ap_model.specs.declared.state.Pass.{Pass}
 use Rattle.ap_model.specs.declared.state.Sample.{Sample}
 use Rattle.ap_model.specs.declared.state.StageEffect.{StageEffect}
-use Rattle.ap_model.specs.declared.row.Row.{Row}
+use Rattle.ap_image.specs.declared.row.Row.{Row}
 use Rattle.ap_model.specs.declared.state.State.{State}
 use Rattle.ap_model.specs.Cycles.{CycleControl, after_control, cycle_entries, cycle_flights, cycle_passes, cycle_samples, effect_in, entering, flight_entries, flight_passes, flight_samples, flights_from, leaving, next_number, unkilled_number, unkilled_numbers}
 use Rattle.ap_model.specs.Fitting.{EntriesFit, FlightFits, FlightsFit, PortsFit, StoragesFit}
