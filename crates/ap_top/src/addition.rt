@@ -17,9 +17,9 @@ pub struct Addition {
 /// The operation `add` of the kind `alu`; `None` exactly where the shelf has no such kind, a unit of it can't have this
 /// width or takes more than one cycle, or it has no such operation.
 pub fn find_addition(shelf: &Shelf, width: u32) -> Option<Addition>
-    ensures some { let cards = cards_of (λ v x. (⟦<dyn UnitKind as UnitKind>⟧ v).card x) shelf.now in
+    ensures some { let cards = cards_of card shelf.now in
         IfSome result (λ a. IsSomeAnd (slice_get cards a.place) (λ c. IsAddition cards width (record { card = c; number = a.number }))) }
-    ensures none { let cards = cards_of (λ v x. (⟦<dyn UnitKind as UnitKind>⟧ v).card x) shelf.now in
+    ensures none { let cards = cards_of card shelf.now in
         IfNone result ((operation : Operation) → IsAddition cards width operation → ⊥) }
 {
     let place = shelf.find("alu")?;

@@ -88,8 +88,8 @@ impl From<Judged> for ReadFault {
 /// `NotBuilt`, at the first line whose tokens aren't those due, or at line 0 where the text ends before the fifteen lines.
 /// The line `unit` isn't due where the shelf has no operation `add` of a kind `alu` for its width.
 pub fn judge(alloc: Global, text: &[u8], shelf: &Shelf) -> Result<Form, ReadFault>
-    ensures form { IfOk result (IsDescription (cards_of (λ v x. (⟦<dyn UnitKind as UnitKind>⟧ v).card x) shelf.now) text.now) }
-    ensures refused { IfErr result (IsReadFault (cards_of (λ v x. (⟦<dyn UnitKind as UnitKind>⟧ v).card x) shelf.now) text.now) }
+    ensures form { IfOk result (IsDescription (cards_of card shelf.now) text.now) }
+    ensures refused { IfErr result (IsReadFault (cards_of card shelf.now) text.now) }
 {
     let _ = read(alloc, text)?;
     let list = lines(alloc, text)?;
@@ -100,8 +100,8 @@ pub fn judge(alloc: Global, text: &[u8], shelf: &Shelf) -> Result<Form, ReadFaul
 /// The first form with the numbers of these lines, or where they aren't its lines.
 fn read_form(text: &[u8], lines: &[Line], shelf: &Shelf) -> Result<Form, Judged>
     requires { AreLinesWithin text.now lines.now }
-    ensures form { IfOk result (λ form. AreLines form first_form (map (line_in text.now) lines.now) × IsForm form × HasAddition (cards_of (λ v x. (⟦<dyn UnitKind as UnitKind>⟧ v).card x) shelf.now) form.width) }
-    ensures not_built { IfErr result (IsNotBuilt (cards_of (λ v x. (⟦<dyn UnitKind as UnitKind>⟧ v).card x) shelf.now) (map (line_in text.now) lines.now)) }
+    ensures form { IfOk result (λ form. AreLines form first_form (map (line_in text.now) lines.now) × IsForm form × HasAddition (cards_of card shelf.now) form.width) }
+    ensures not_built { IfErr result (IsNotBuilt (cards_of card shelf.now) (map (line_in text.now) lines.now)) }
 {
     let due = pattern::first_form();
     let mut numbers = Numbers::new();
@@ -122,7 +122,7 @@ fn read_form(text: &[u8], lines: &[Line], shelf: &Shelf) -> Result<Form, Judged>
 
 /// Whether the shelf has what the line at this place asks for, after the line was taken.
 fn is_served(shelf: &Shelf, numbers: &Numbers, place: usize) -> bool
-    ensures { IsServed (cards_of (λ v x. (⟦<dyn UnitKind as UnitKind>⟧ v).card x) shelf.now) numbers.now.found place result }
+    ensures { IsServed (cards_of card shelf.now) numbers.now.found place result }
 {
     if place != UNIT_LINE {
         return true;

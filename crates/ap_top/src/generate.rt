@@ -26,11 +26,11 @@ pub(crate) fn generate<D: Desk>(
 ) -> Result<(), Stop>
     requires description { IsFileName description.now }
     requires verilog { IsFileName verilog.now }
-    ensures done { let cards = cards_of (λ v x. (⟦<dyn UnitKind as UnitKind>⟧ v).card x) shelf.now in
+    ensures done { let cards = cards_of card shelf.now in
         OnOk result (Goes (FromGood cards Writes (gen_sources description.now) (gen_targets verilog.now)) (D.files desk.old) (D.files desk.new)) }
-    ensures stopped { let cards = cards_of (λ v x. (⟦<dyn UnitKind as UnitKind>⟧ v).card x) shelf.now in
+    ensures stopped { let cards = cards_of card shelf.now in
         IfErr result (StopsOn cards (gen_sources description.now) (gen_targets verilog.now) (D.files desk.old) (D.files desk.new)) }
-    ensures cause { let cards = cards_of (λ v x. (⟦<dyn UnitKind as UnitKind>⟧ v).card x) shelf.now in
+    ensures cause { let cards = cards_of card shelf.now in
         IsCaused desk_stop (FailsOn cards (gen_sources description.now) (D.files desk.old) (D.faults desk.old) (D.faults desk.new) (D.absent desk.old) (D.absent desk.new)) (D.faults desk.old) (D.faults desk.new) (D.absent desk.old) (D.absent desk.new) result }
 {
     let text = read_all(alloc, desk, description, DESCRIPTION_LIMIT)?;

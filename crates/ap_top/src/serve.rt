@@ -20,11 +20,11 @@ use std::alloc::Global;
 /// Does the command that the words are.
 fn run<D: Desk>(alloc: Global, words: &[String], shelf: &Shelf, desk: &mut D) -> Result<(), Stop>
     ensures command { OnOk result (IsCommand (map string_bytes words.now)) }
-    ensures done { let cards = cards_of (λ v x. (⟦<dyn UnitKind as UnitKind>⟧ v).card x) shelf.now in
+    ensures done { let cards = cards_of card shelf.now in
         OnOk result (Goes (IsDone cards (map string_bytes words.now)) (D.files desk.old) (D.files desk.new)) }
-    ensures stopped { let cards = cards_of (λ v x. (⟦<dyn UnitKind as UnitKind>⟧ v).card x) shelf.now in
+    ensures stopped { let cards = cards_of card shelf.now in
         IfErr result (StopsAs cards (map string_bytes words.now) (D.files desk.old) (D.files desk.new)) }
-    ensures cause { let cards = cards_of (λ v x. (⟦<dyn UnitKind as UnitKind>⟧ v).card x) shelf.now in
+    ensures cause { let cards = cards_of card shelf.now in
         IsCaused desk_stop (HasFailed cards (map string_bytes words.now) (D.files desk.old) (D.faults desk.old) (D.faults desk.new) (D.absent desk.old) (D.absent desk.new)) (D.faults desk.old) (D.faults desk.new) (D.absent desk.old) (D.absent desk.new) result }
 {
     match command_of(words) {
@@ -40,11 +40,11 @@ fn answer<D: Desk>(
     shelf: &Shelf,
     desk: &mut D,
 ) -> Result<u8, Trouble>
-    ensures answered { let cards = cards_of (λ v x. (⟦<dyn UnitKind as UnitKind>⟧ v).card x) shelf.now in
+    ensures answered { let cards = cards_of card shelf.now in
         IfOk result (λ status. Answers cards (map string_bytes words.now) status (D.files desk.old) (D.files desk.new)) }
-    ensures stopped { let cards = cards_of (λ v x. (⟦<dyn UnitKind as UnitKind>⟧ v).card x) shelf.now in
+    ensures stopped { let cards = cards_of card shelf.now in
         OnErr result (Goes (IsPartDone cards (map string_bytes words.now)) (D.files desk.old) (D.files desk.new)) }
-    ensures cause { let cards = cards_of (λ v x. (⟦<dyn UnitKind as UnitKind>⟧ v).card x) shelf.now in
+    ensures cause { let cards = cards_of card shelf.now in
         IsCaused Trouble.Desk (HasFailed cards (map string_bytes words.now) (D.files desk.old) (D.faults desk.old) (D.faults desk.new) (D.absent desk.old) (D.absent desk.new)) (D.faults desk.old) (D.faults desk.new) (D.absent desk.old) (D.absent desk.new) result }
 {
     match run(alloc, words, shelf, desk) {
@@ -67,23 +67,23 @@ pub fn serve<D: Desk>(alloc: Global, words: &[String], shelf: &Shelf, desk: &mut
     ensures status { IsStatus result }
 
     // What each status says of the words, the files and the desk's counts.
-    ensures done { let cards = cards_of (λ v x. (⟦<dyn UnitKind as UnitKind>⟧ v).card x) shelf.now in
+    ensures done { let cards = cards_of card shelf.now in
         result ≡ 0 → IsCommand (map string_bytes words.now) × Goes (IsDone cards (map string_bytes words.now)) (D.files desk.old) (D.files desk.new) }
-    ensures refused { let cards = cards_of (λ v x. (⟦<dyn UnitKind as UnitKind>⟧ v).card x) shelf.now in
+    ensures refused { let cards = cards_of card shelf.now in
         IsRefusalStatus result → Refuses cards (map string_bytes words.now) result (D.files desk.old) (D.files desk.new) }
-    ensures failed { let cards = cards_of (λ v x. (⟦<dyn UnitKind as UnitKind>⟧ v).card x) shelf.now in
+    ensures failed { let cards = cards_of card shelf.now in
         result ≡ trouble_status Trouble.Desk → HasFailed cards (map string_bytes words.now) (D.files desk.old) (D.faults desk.old) (D.faults desk.new) (D.absent desk.old) (D.absent desk.new) }
-    ensures stopped { let cards = cards_of (λ v x. (⟦<dyn UnitKind as UnitKind>⟧ v).card x) shelf.now in
+    ensures stopped { let cards = cards_of card shelf.now in
         (trouble : Trouble) → result ≡ trouble_status trouble → Goes (StopsShort cards (map string_bytes words.now) (trouble_line trouble)) (D.files desk.old) (D.files desk.new) }
 
     // Which status comes where the desk didn't fail.
-    ensures usage { let cards = cards_of (λ v x. (⟦<dyn UnitKind as UnitKind>⟧ v).card x) shelf.now in
+    ensures usage { let cards = cards_of card shelf.now in
         ¬ IsCommand (map string_bytes words.now)
         → ¬ HasFailed cards (map string_bytes words.now) (D.files desk.old) (D.faults desk.old) (D.faults desk.new) (D.absent desk.old) (D.absent desk.new) → IsOrMemory 1 result }
-    ensures refuses { let cards = cards_of (λ v x. (⟦<dyn UnitKind as UnitKind>⟧ v).card x) shelf.now in
+    ensures refuses { let cards = cards_of card shelf.now in
         (refusal : Refusal) → IsSomeAnd (D.files desk.old) (λ told. IsDue cards (map string_bytes words.now) (Some told) refusal)
         → ¬ HasFailed cards (map string_bytes words.now) (D.files desk.old) (D.faults desk.old) (D.faults desk.new) (D.absent desk.old) (D.absent desk.new) → IsOrMemory (refusal_status refusal) result }
-    ensures completes { let cards = cards_of (λ v x. (⟦<dyn UnitKind as UnitKind>⟧ v).card x) shelf.now in
+    ensures completes { let cards = cards_of card shelf.now in
         IsSomeAnd (D.files desk.old) (HasGoodInputs cards (map string_bytes words.now))
         → ¬ HasFailed cards (map string_bytes words.now) (D.files desk.old) (D.faults desk.old) (D.faults desk.new) (D.absent desk.old) (D.absent desk.new) → IsOrMemory 0 result }
 
@@ -100,7 +100,7 @@ pub fn serve<D: Desk>(alloc: Global, words: &[String], shelf: &Shelf, desk: &mut
 /// The same on the desk in memory that never fails: a command whose inputs are there and without fault is done, or
 /// memory ran out.
 pub fn serve_on_sure_desk(alloc: Global, words: &[String], shelf: &Shelf, desk: &mut SureDesk) -> u8
-    requires { let cards = cards_of (λ v x. (⟦<dyn UnitKind as UnitKind>⟧ v).card x) shelf.now in
+    requires { let cards = cards_of card shelf.now in
         HasGoodInputs cards (map string_bytes words.now) desk.old.files }
     ensures { IsOrMemory 0 result }
 {

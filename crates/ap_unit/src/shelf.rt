@@ -65,15 +65,15 @@ fn first_twice(kinds: &[Box<dyn UnitKind>]) -> Option<usize>
 }
 
 impl Shelf {
-    ghost use Rattle.ap_unit.specs.Shelves.{cards_of};
+    ghost use Rattle.ap_unit.specs.Shelves.{boxed_cards_of, cards_of};
     ghost use Rattle.ap_unit.specs.Faults.{IsLeastTwice};
 
     /// A shelf of these kinds, fewer than 2^32, whose names have to differ. It takes no memory.
     pub fn new(kinds: Vec<Box<dyn UnitKind>>) -> Result<Shelf, ShelfFault>
         requires { vec_len kinds < 2 ^ 32 }
-        ensures ok { IfOk result (λ shelf. cards_of (λ v x. (⟦<dyn UnitKind as UnitKind>⟧ v).card x) shelf ≡ map (λ b. (⟦<dyn UnitKind as UnitKind>⟧ b.vtable).card b.value) kinds.items) }
-        ensures differ { OnOk result (KindsDiffer (map (λ b. (⟦<dyn UnitKind as UnitKind>⟧ b.vtable).card b.value) kinds.items)) }
-        ensures twice { IfErr result (IsLeastTwice (map (λ b. (⟦<dyn UnitKind as UnitKind>⟧ b.vtable).card b.value) kinds.items)) }
+        ensures ok { IfOk result (λ shelf. boxed_cards_of card shelf ≡ map card kinds.items) }
+        ensures differ { OnOk result (KindsDiffer (map card kinds.items)) }
+        ensures twice { IfErr result (IsLeastTwice (map card kinds.items)) }
     {
         match first_twice(&kinds) {
             Some(place) => Err(ShelfFault::TwiceNamed { place }),
@@ -83,15 +83,15 @@ impl Shelf {
 
     /// The first place of a kind of this name; `None` exactly where no kind has the name.
     pub fn find(&self, name: &str) -> Option<usize>
-        ensures { result ≡ place_of name.now (cards_of (λ v x. (⟦<dyn UnitKind as UnitKind>⟧ v).card x) self.now) }
+        ensures { result ≡ place_of name.now (boxed_cards_of card self.now) }
     {
         place_among(&self.kinds, name)
     }
 
     /// The kind at a place.
     pub fn kind(&self, i: usize) -> &dyn UnitKind
-        requires { i < length (cards_of (λ v x. (⟦<dyn UnitKind as UnitKind>⟧ v).card x) self.now) }
-        ensures { slice_get (cards_of (λ v x. (⟦<dyn UnitKind as UnitKind>⟧ v).card x) self.now) i ≡ Some (card result.now) }
+        requires { i < length (cards_of card self.now) }
+        ensures { slice_get (cards_of card self.now) i ≡ Some (card result.now) }
     {
         &*self.kinds[i]
     }

@@ -3,7 +3,7 @@
 #![tactic(auto)]
 
 ghost use Rattle.std.specs.Prelude.{◌≡◌, IfOk};
-ghost use Rattle.ap_unit.specs.Shelves.{cards_of};
+ghost use Rattle.ap_unit.specs.Shelves.{boxed_cards_of};
 ghost use Rattle.ap_comb.specs.Alu.{alu_card};
 ghost use Rattle.ap_comb.specs.Shifts.{shift_card};
 ghost use Rattle.ap_comb.specs.Counts.{count_card};
@@ -31,7 +31,7 @@ fn shelf_of(
     requires shift { card shift ≡ shift_card }
     requires count { card count ≡ count_card }
     requires avg { card avg ≡ avg_card }
-    ensures { IfOk result (λ shelf. cards_of (λ v x. (⟦<dyn UnitKind as UnitKind>⟧ v).card x) shelf ≡ program_cards) }
+    ensures { IfOk result (λ shelf. boxed_cards_of card shelf ≡ program_cards) }
 {
     let mut kinds = Vec::new(alloc);
     kinds.push(alu)?;

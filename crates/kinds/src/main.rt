@@ -35,9 +35,9 @@ fn unit_text(alloc: Global, kind: &dyn UnitKind, w: u32) -> Result<Vec<u8>, NoMe
 /// The text of a unit of the kind of this name at this width; none exactly where the shelf has no kind of this name, or the
 /// kind no such width.
 fn text_for(alloc: Global, shelf: &Shelf, name: &str, w: u32) -> Result<Option<Vec<u8>>, NoMemory>
-    ensures some { let cards = cards_of (λ v x. (⟦<dyn UnitKind as UnitKind>⟧ v).card x) shelf.now in
+    ensures some { let cards = cards_of card shelf.now in
         IfOk result (λ found. IfSome found (λ text. IsTextFor cards name.now w text.items)) }
-    ensures none { let cards = cards_of (λ v x. (⟦<dyn UnitKind as UnitKind>⟧ v).card x) shelf.now in
+    ensures none { let cards = cards_of card shelf.now in
         IfOk result (λ found. IfNone found ((c : Card) → IsKindNamed cards name.now c → FitsWidth c w → ⊥)) }
 {
     let Some(place) = shelf.find(name) else {
