@@ -1,7 +1,11 @@
--- What a card says of its resource: its widths, its latency, and the width of the input by which an operation is chosen.
-use Rattle.std.specs.Prelude.{ℕ, zero, suc, ◌+◌, ◌^◌, ◌==◌, ◌&&◌, ◌≤◌, nat_le, if◌then◌else◌, IsTrue, Bool, [], ◌∷◌, length}
+-- What a card says of its resource: its widths, its latency, its operations and their values, and the width of the input by
+-- which an operation is chosen.
+use Rattle.std.specs.Prelude.{ℕ, zero, suc, ◌+◌, ◌^◌, ◌==◌, ◌&&◌, ◌≤◌, nat_le, if◌then◌else◌, IsTrue, Bool, List, [], ◌∷◌, map, length, slice_get}
 use Rattle.std.specs.List.{list_any}
+use Rattle.std.specs.Option.{option_map_or}
+use Rattle.ap_bits.specs.Terms.{term_value}
 use Rattle.ap_bits.specs.declared.card.Card.{Card}
+use Rattle.ap_bits.specs.declared.card.OpCard.{OpCard}
 use Rattle.ap_bits.specs.declared.card.Widths.{Widths}
 use Rattle.ap_bits.specs.declared.card.Widths.TheVariants.{Any, PowersOfTwo}
 use Rattle.ap_bits.specs.declared.card.Latency.{Latency}
@@ -23,6 +27,14 @@ cycles_at WidthPlusOne w = w + 1
 
 abbrev pub latency_at : Card → ℕ → ℕ
 latency_at card w = cycles_at card.latency w
+
+-- the names of a card's operations, in order
+abbrev pub operation_names : Card → List (List ℕ)
+operation_names card = map (λ (op : OpCard). op.name) card.ops
+
+-- the value of the operation of this number at w bits; 0 where there is none
+abbrev pub operation_value : Card → ℕ → ℕ → ℕ → ℕ → ℕ
+operation_value card w op a b = option_map_or (λ (o : OpCard). term_value o.term w a b) (slice_get card.ops op) 0
 
 -- the least of s, s + 1 and so on, of which tries further ones are looked at, whose power of two is at least n
 abbrev pub least_power : ℕ → ℕ → ℕ → ℕ

@@ -1,5 +1,6 @@
 pub mod Beside
 pub mod Cards
+pub mod KindCards
 pub mod Names
 pub mod Operations
 pub mod Rows

@@ -3,10 +3,11 @@ use Rattle.std.proofs.Common.{◌≡◌, ℕ, ◌<◌, suc, zero, length, map, g
 use Rattle.std.specs.Prelude.{slice_index}
 use Rattle.std.proofs.lemmas.List.{get_or-map}
 use Rattle.ap_bits.proofs.TermValues.{term_values}
-use Rattle.ap_unit.specs.Cards.{operation_value}
+use Rattle.ap_bits.specs.Cards.{operation_value}
 use Rattle.ap_comb.specs.declared.alu.Operation.{Operation}
 use Rattle.ap_comb.specs.declared.alu.TheConstants.{OPERATIONS}
-use Rattle.ap_comb.specs.Alu.{alu_card, result_of}
+use Rattle.ap_bits.specs.KindCards.{alu_card}
+use Rattle.ap_comb.specs.Alu.{result_of}
 
 -- each result is the value of the card's operation of this number
 pub result_at : (w n a b : ℕ) → n < 9 → slice_index (map (λ (o : Operation). result_of o w a b) OPERATIONS) n ≡ operation_value alu_card w n a b

@@ -11,7 +11,7 @@ use Rattle.ap_bits.proofs.TermValues.{term_value-const, term_value-bin}
 use Rattle.ap_net.specs.declared.cell.Wire.{Wire}
 use Rattle.ap_net.specs.Draft.{Draft, SettlesDraft}
 use Rattle.ap_unit.specs.declared.pieces.Inputs.{Inputs}
-use Rattle.ap_unit.specs.Cards.{operation_value}
+use Rattle.ap_bits.specs.Cards.{operation_value}
 use Rattle.ap_unit.specs.Pieces.{HasValue}
 use Rattle.ap_comb.proofs.KindValues.{on_both_value}
 

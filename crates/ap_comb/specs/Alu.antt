@@ -1,29 +1,10 @@
--- The unit for sums, bits and comparisons: its card, and what each of its operations gives.
-use Rattle.std.specs.Prelude.{ℕ, ◌≡◌, List, [], ◌∷◌, codes}
+-- The unit for sums, bits and comparisons: what each of its operations gives.
+use Rattle.std.specs.Prelude.{ℕ, List, codes}
 use Rattle.ap_bits.specs.declared.term.UnOp.TheVariants as one
-use Rattle.ap_bits.specs.declared.term.BinOp.{BinOp}
 use Rattle.ap_bits.specs.declared.term.BinOp.TheVariants as two
-use Rattle.ap_bits.specs.declared.term.Term.{Term, A, B, Un, Bin}
-use Rattle.ap_bits.specs.declared.card.OpCard.{OpCard}
-use Rattle.ap_bits.specs.declared.card.Card.{Card}
-use Rattle.ap_bits.specs.declared.card.Widths.TheVariants.{Any}
-use Rattle.ap_bits.specs.declared.card.Latency.TheVariants.{One}
 use Rattle.ap_bits.specs.Operations.{unary_value, binary_value}
 use Rattle.ap_comb.specs.declared.alu.Operation.{Operation}
 use Rattle.ap_comb.specs.declared.alu.Operation.TheVariants as alu
-
--- an operation on both operands
-abbrev both : List ℕ → BinOp → OpCard
-both name op = record { name = name; term = Bin op A B }
-
-abbrev pub alu_card : Card
-alu_card = record {
-  name = codes "alu";
-  ops = both (codes "add") two.Add ∷ both (codes "sub") two.Sub ∷ both (codes "and") two.And ∷ both (codes "or") two.Or ∷ both (codes "xor") two.Xor
-      ∷ both (codes "eq") two.Eq ∷ both (codes "ltu") two.Ltu ∷ both (codes "lts") two.Lts ∷ record { name = codes "pass"; term = Un one.Pass A } ∷ [];
-  widths = Any;
-  latency = One;
-}
 
 -- the name of an operation
 abbrev pub name_of : Operation → List ℕ

@@ -2,12 +2,12 @@
 ghost use Rattle.std.specs.Prelude.{◌≡◌, ℕ, ◌+◌, ◌-◌, ◌/◌, ◌%◌, ◌^◌, ◌<◌, ◌≤◌, ◌==◌, if◌then◌else◌, IfOk, OnOk, All, length, map, bit_xor};
 ghost use Rattle.ap_bits.specs.declared.term.BinOp.TheVariants as two;
 ghost use Rattle.ap_bits.specs.Operations.{binary_value};
-ghost use Rattle.ap_net.specs.Cells.{IsNet, FitsTwo, two_value};
-ghost use Rattle.ap_net.specs.Draft.{CanFresh, Makes, SettlesDraft};
-ghost use Rattle.ap_unit.specs.Cards.{operation_value};
-ghost use Rattle.ap_comb.specs.Alu.{alu_card, name_of, result_of};
+ghost use Rattle.ap_net.specs.Cells.{IsNet, AreOfOneWidth, FitsTwo, two_value};
+ghost use Rattle.ap_net.specs.Draft.{CanFresh, Makes, Means};
+ghost use Rattle.ap_bits.specs.Cards.{operation_value, FitsWidth};
+ghost use Rattle.ap_bits.specs.KindCards.{alu_card};
+ghost use Rattle.ap_comb.specs.Alu.{name_of, result_of};
 ghost use Rattle.ap_comb.specs.Choices.{IsOfWidth, values_of};
-ghost use Rattle.ap_bits.specs.Cards.{FitsWidth};
 ghost use Rattle.ap_unit.specs.Built.{IsBlank, IsUnitDraft};
 ghost use Rattle.ap_unit.specs.Named.{NamesPlainly};
 
@@ -53,13 +53,12 @@ const SELECT: u32 = 4;
 fn flag(out: &mut Builder, op: TwoOp, a: Wire, b: Wire) -> Result<Wire, NoMemory>
     requires fresh { CanFresh out.old }
     requires op { FitsTwo op 1 a.width }
-    requires a { IsNet out.old.nets a }
-    requires b { IsNet out.old.nets b }
-    requires same { b.width ≡ a.width }
-    requires low { 1 ≤ a.width }
-    requires high { a.width ≤ 64 }
+    requires operands { AreOfOneWidth out.old.nets a b }
     ensures net { IfOk result (IsOfWidth out.new.nets a.width) }
-    ensures value { IfOk result (λ y. (read : ℕ → ℕ) → SettlesDraft out.new read → SettlesDraft out.old read × (read y.number ≡ two_value op 1 (read a.number) (read b.number))) }
+    ensures value {
+        IfOk result (λ y. Means out.old out.new (λ read.
+            read y.number ≡ two_value op 1 (read a.number) (read b.number)))
+    }
     ensures makes { OnOk result (Makes out.old out.new) }
 {
     let holds = out.make(1, Cell::Two(op, a, b))?;
@@ -78,7 +77,11 @@ fn by_signs(out: &mut Builder, first: Wire, second: Wire, below: Wire) -> Result
     requires below { IsNet out.old.nets below }
     requires below_bit { below.width ≡ 1 }
     ensures net { IfOk result (IsOfWidth out.new.nets 1) }
-    ensures value { IfOk result (λ y. (read : ℕ → ℕ) → SettlesDraft out.new read → SettlesDraft out.old read × (read y.number ≡ (if bit_xor (read first.number) (read second.number) == 1 then read first.number else read below.number))) }
+    ensures value {
+        IfOk result (λ y. Means out.old out.new (λ read.
+            read y.number ≡ (if bit_xor (read first.number) (read second.number) == 1
+                then read first.number else read below.number)))
+    }
     ensures makes { OnOk result (Makes out.old out.new) }
 {
     let differ = out.make(1, Cell::Two(TwoOp::Xor, first, second))?;
@@ -90,13 +93,12 @@ fn by_signs(out: &mut Builder, first: Wire, second: Wire, below: Wire) -> Result
 #[tactic(auto, using(ap_net::proofs::Laws::laws))]
 fn is_less(out: &mut Builder, a: Wire, b: Wire) -> Result<Wire, NoMemory>
     requires fresh { CanFresh out.old }
-    requires a { IsNet out.old.nets a }
-    requires b { IsNet out.old.nets b }
-    requires same { b.width ≡ a.width }
-    requires low { 1 ≤ a.width }
-    requires high { a.width ≤ 64 }
+    requires operands { AreOfOneWidth out.old.nets a b }
     ensures net { IfOk result (IsOfWidth out.new.nets 1) }
-    ensures value { IfOk result (λ y. (read : ℕ → ℕ) → SettlesDraft out.new read → SettlesDraft out.old read × (read y.number ≡ binary_value two.Lts a.width (read a.number) (read b.number))) }
+    ensures value {
+        IfOk result (λ y. Means out.old out.new (λ read.
+            read y.number ≡ binary_value two.Lts a.width (read a.number) (read b.number)))
+    }
     ensures makes { OnOk result (Makes out.old out.new) }
 {
     let first = bit(out, a, a.width - 1)?;
@@ -110,13 +112,12 @@ fn is_less(out: &mut Builder, a: Wire, b: Wire) -> Result<Wire, NoMemory>
 #[tactic(auto, using(ap_net::proofs::Laws::laws))]
 fn signed_flag(out: &mut Builder, a: Wire, b: Wire) -> Result<Wire, NoMemory>
     requires fresh { CanFresh out.old }
-    requires a { IsNet out.old.nets a }
-    requires b { IsNet out.old.nets b }
-    requires same { b.width ≡ a.width }
-    requires low { 1 ≤ a.width }
-    requires high { a.width ≤ 64 }
+    requires operands { AreOfOneWidth out.old.nets a b }
     ensures net { IfOk result (IsOfWidth out.new.nets a.width) }
-    ensures value { IfOk result (λ y. (read : ℕ → ℕ) → SettlesDraft out.new read → SettlesDraft out.old read × (read y.number ≡ binary_value two.Lts a.width (read a.number) (read b.number))) }
+    ensures value {
+        IfOk result (λ y. Means out.old out.new (λ read.
+            read y.number ≡ binary_value two.Lts a.width (read a.number) (read b.number)))
+    }
     ensures makes { OnOk result (Makes out.old out.new) }
 {
     let less = is_less(out, a, b)?;
@@ -129,13 +130,12 @@ fn signed_flag(out: &mut Builder, a: Wire, b: Wire) -> Result<Wire, NoMemory>
 fn word(out: &mut Builder, op: TwoOp, a: Wire, b: Wire) -> Result<Wire, NoMemory>
     requires fresh { CanFresh out.old }
     requires op { FitsTwo op a.width a.width }
-    requires a { IsNet out.old.nets a }
-    requires b { IsNet out.old.nets b }
-    requires same { b.width ≡ a.width }
-    requires low { 1 ≤ a.width }
-    requires high { a.width ≤ 64 }
+    requires operands { AreOfOneWidth out.old.nets a b }
     ensures net { IfOk result (IsOfWidth out.new.nets a.width) }
-    ensures value { IfOk result (λ y. (read : ℕ → ℕ) → SettlesDraft out.new read → SettlesDraft out.old read × (read y.number ≡ two_value op a.width (read a.number) (read b.number))) }
+    ensures value {
+        IfOk result (λ y. Means out.old out.new (λ read.
+            read y.number ≡ two_value op a.width (read a.number) (read b.number)))
+    }
     ensures makes { OnOk result (Makes out.old out.new) }
 {
     let made = out.make(a.width, Cell::Two(op, a, b))?;
@@ -185,13 +185,12 @@ impl Operation {
     #[tactic(auto, using(ap_net::proofs::Laws::laws))]
     fn make(self, out: &mut Builder, a: Wire, b: Wire) -> Result<Wire, NoMemory>
         requires fresh { CanFresh out.old }
-        requires a { IsNet out.old.nets a }
-        requires b { IsNet out.old.nets b }
-        requires same { b.width ≡ a.width }
-        requires low { 1 ≤ a.width }
-        requires high { a.width ≤ 64 }
+        requires operands { AreOfOneWidth out.old.nets a b }
         ensures net { IfOk result (IsOfWidth out.new.nets a.width) }
-        ensures value { IfOk result (λ y. (read : ℕ → ℕ) → SettlesDraft out.new read → SettlesDraft out.old read × (read y.number ≡ result_of self a.width (read a.number) (read b.number))) }
+        ensures value {
+            IfOk result (λ y. Means out.old out.new (λ read.
+                read y.number ≡ result_of self a.width (read a.number) (read b.number)))
+        }
         ensures makes { OnOk result (Makes out.old out.new) }
     {
         match self {
@@ -212,14 +211,13 @@ impl Operation {
 #[tactic(auto, using(ap_net::proofs::Laws::laws))]
 fn results(out: &mut Builder, a: Wire, b: Wire) -> Result<Vec<Wire>, NoMemory>
     requires fresh { CanFresh out.old }
-    requires a { IsNet out.old.nets a }
-    requires b { IsNet out.old.nets b }
-    requires same { b.width ≡ a.width }
-    requires low { 1 ≤ a.width }
-    requires high { a.width ≤ 64 }
+    requires operands { AreOfOneWidth out.old.nets a b }
     ensures long { IfOk result (λ made. length made.items ≡ 9) }
     ensures nets { IfOk result (λ made. All (IsOfWidth out.new.nets a.width) made.items) }
-    ensures value { IfOk result (λ made. (read : ℕ → ℕ) → SettlesDraft out.new read → SettlesDraft out.old read × (values_of read made.items ≡ map (λ o. result_of o a.width (read a.number) (read b.number)) OPERATIONS)) }
+    ensures value {
+        IfOk result (λ made. Means out.old out.new (λ read. values_of read made.items
+            ≡ map (λ o. result_of o a.width (read a.number) (read b.number)) OPERATIONS))
+    }
     ensures makes { OnOk result (Makes out.old out.new) }
 {
     let mut made = Vec::new(out.allocator());
@@ -236,13 +234,14 @@ fn chosen(out: &mut Builder, inputs: Inputs) -> Result<Wire, NoMemory>
     requires fresh { CanFresh out.old }
     requires sel { IsNet out.old.nets inputs.sel }
     requires bits { inputs.sel.width ≡ SELECT }
-    requires a { IsNet out.old.nets inputs.a }
-    requires b { IsNet out.old.nets inputs.b }
-    requires same { inputs.b.width ≡ inputs.a.width }
-    requires low { 1 ≤ inputs.a.width }
-    requires high { inputs.a.width ≤ 64 }
+    requires operands { AreOfOneWidth out.old.nets inputs.a inputs.b }
     ensures net { IfOk result (IsOfWidth out.new.nets inputs.a.width) }
-    ensures value { IfOk result (λ y. (read : ℕ → ℕ) → SettlesDraft out.new read → SettlesDraft out.old read × (read inputs.sel.number < 9 → read y.number ≡ operation_value alu_card inputs.a.width (read inputs.sel.number) (read inputs.a.number) (read inputs.b.number))) }
+    ensures value {
+        IfOk result (λ y. Means out.old out.new (λ read.
+            read inputs.sel.number < 9 → read y.number
+                ≡ operation_value alu_card inputs.a.width (read inputs.sel.number)
+                    (read inputs.a.number) (read inputs.b.number)))
+    }
     ensures makes { OnOk result (Makes out.old out.new) }
 {
     let Inputs { sel, a, b } = inputs;

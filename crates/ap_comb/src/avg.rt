@@ -1,10 +1,10 @@
 //! The kind `avg`: half of the sum.
 ghost use Rattle.std.specs.Prelude.{◌≡◌, ℕ, ◌/◌, ◌%◌, ◌^◌, ◌<◌, ◌≤◌, IfOk, OnOk};
-ghost use Rattle.ap_net.specs.Cells.{IsNet};
-ghost use Rattle.ap_net.specs.Draft.{CanFresh, Makes, SettlesDraft};
+ghost use Rattle.ap_net.specs.Cells.{IsNet, AreOfOneWidth};
+ghost use Rattle.ap_net.specs.Draft.{CanFresh, Makes, Means};
 ghost use Rattle.ap_bits.specs.declared.term.BinOp.TheVariants.{Add, Srl};
 ghost use Rattle.ap_bits.specs.Operations.{binary_value};
-ghost use Rattle.ap_comb.specs.Averages.{avg_card};
+ghost use Rattle.ap_bits.specs.KindCards.{avg_card};
 ghost use Rattle.ap_bits.specs.Cards.{FitsWidth};
 ghost use Rattle.ap_unit.specs.Built.{IsBlank, IsUnitDraft};
 ghost use Rattle.ap_unit.specs.Named.{NamesPlainly};
@@ -20,13 +20,13 @@ use ap_unit::{UnitKind, declare_inputs, show_result};
 #[tactic(auto, using(ap_net::proofs::Laws::laws))]
 pub fn half_of_sum(out: &mut Builder, a: Wire, b: Wire) -> Result<Wire, NoMemory>
     requires fresh { CanFresh out.old }
-    requires a { IsNet out.old.nets a }
-    requires b { IsNet out.old.nets b }
-    requires same { b.width ≡ a.width }
+    requires operands { AreOfOneWidth out.old.nets a b }
     requires low { 1 < a.width }
-    requires high { a.width ≤ 64 }
     ensures net { IfOk result (λ y. IsNet out.new.nets y × (y.width ≡ a.width)) }
-    ensures value { IfOk result (λ y. (read : ℕ → ℕ) → SettlesDraft out.new read → SettlesDraft out.old read × (read y.number ≡ binary_value Add a.width (read a.number) (read b.number) / 2 ^ 1)) }
+    ensures value {
+        IfOk result (λ y. Means out.old out.new (λ read.
+            read y.number ≡ binary_value Add a.width (read a.number) (read b.number) / 2 ^ 1))
+    }
     ensures makes { OnOk result (Makes out.old out.new) }
 {
     let sum = out.make(a.width, Cell::Two(TwoOp::Add, a, b))?;
@@ -39,13 +39,13 @@ pub fn half_of_sum(out: &mut Builder, a: Wire, b: Wire) -> Result<Wire, NoMemory
 #[tactic(auto, using(ap_net::proofs::Laws::laws))]
 pub fn average(out: &mut Builder, a: Wire, b: Wire) -> Result<Wire, NoMemory>
     requires fresh { CanFresh out.old }
-    requires a { IsNet out.old.nets a }
-    requires b { IsNet out.old.nets b }
-    requires same { b.width ≡ a.width }
-    requires low { 1 ≤ a.width }
-    requires high { a.width ≤ 64 }
+    requires operands { AreOfOneWidth out.old.nets a b }
     ensures net { IfOk result (λ y. IsNet out.new.nets y × (y.width ≡ a.width)) }
-    ensures value { IfOk result (λ y. (read : ℕ → ℕ) → SettlesDraft out.new read → SettlesDraft out.old read × (read y.number ≡ binary_value Srl a.width (binary_value Add a.width (read a.number) (read b.number)) 1)) }
+    ensures value {
+        IfOk result (λ y. Means out.old out.new (λ read.
+            read y.number ≡ binary_value Srl a.width
+                (binary_value Add a.width (read a.number) (read b.number)) 1))
+    }
     ensures makes { OnOk result (Makes out.old out.new) }
 {
     if a.width == 1 {

@@ -1,10 +1,11 @@
 //! The kind `count`: how many bits are 1, and how many stand above the highest 1.
 ghost use Rattle.std.specs.Prelude.{◌≡◌, ℕ, ◌-◌, ◌^◌, ◌<◌, ◌≤◌, ◌==◌, if◌then◌else◌, IfOk, OnOk, slice_get, Some};
 ghost use Rattle.ap_net.specs.Cells.{IsNet};
-ghost use Rattle.ap_net.specs.Draft.{CanFresh, Makes, SettlesDraft};
+ghost use Rattle.ap_net.specs.Draft.{CanFresh, Makes, Means};
 ghost use Rattle.ap_bits.specs.declared.term.UnOp.{UnOp};
 ghost use Rattle.ap_bits.specs.Operations.{unary_value, zeros_above};
-ghost use Rattle.ap_comb.specs.Counts.{count_ops, count_card};
+ghost use Rattle.ap_bits.specs.KindCards.{count_card};
+ghost use Rattle.ap_comb.specs.Counts.{count_ops};
 ghost use Rattle.ap_bits.specs.Cards.{FitsWidth};
 ghost use Rattle.ap_unit.specs.Built.{IsBlank, IsUnitDraft};
 ghost use Rattle.ap_unit.specs.Named.{NamesPlainly};
@@ -24,10 +25,13 @@ pub fn counted_bits(out: &mut Builder, leading: Wire, x: Wire) -> Result<Wire, N
     requires leading { IsNet out.old.nets leading }
     requires one_bit { leading.width ≡ 1 }
     requires x { IsNet out.old.nets x }
-    requires low { 1 ≤ x.width }
-    requires high { x.width ≤ 64 }
     ensures net { IfOk result (λ y. IsNet out.new.nets y × (y.width ≡ x.width)) }
-    ensures value { IfOk result (λ y. (read : ℕ → ℕ) → SettlesDraft out.new read → SettlesDraft out.old read × (read y.number ≡ (if read leading.number == 1 then 2 ^ x.width - 1 - (2 ^ (x.width - zeros_above x.width (read x.number)) - 1) else read x.number))) }
+    ensures value {
+        IfOk result (λ y. Means out.old out.new (λ read.
+            read y.number ≡ (if read leading.number == 1
+                then 2 ^ x.width - 1 - (2 ^ (x.width - zeros_above x.width (read x.number)) - 1)
+                else read x.number)))
+    }
     ensures makes { OnOk result (Makes out.old out.new) }
 {
     let run = running_or(out, x)?;
@@ -43,10 +47,12 @@ pub fn number_of_bits(out: &mut Builder, sel: Wire, a: Wire) -> Result<Wire, NoM
     requires sel { IsNet out.old.nets sel }
     requires one_bit { sel.width ≡ 1 }
     requires a { IsNet out.old.nets a }
-    requires low { 1 ≤ a.width }
-    requires high { a.width ≤ 64 }
     ensures net { IfOk result (λ y. IsNet out.new.nets y × (y.width ≡ a.width)) }
-    ensures value { IfOk result (λ y. (read : ℕ → ℕ) → SettlesDraft out.new read → SettlesDraft out.old read × ((op : UnOp) → slice_get count_ops (read sel.number) ≡ Some op → read y.number ≡ unary_value op a.width (read a.number))) }
+    ensures value {
+        IfOk result (λ y. Means out.old out.new (λ read.
+            (op : UnOp) → slice_get count_ops (read sel.number) ≡ Some op
+                → read y.number ≡ unary_value op a.width (read a.number)))
+    }
     ensures makes { OnOk result (Makes out.old out.new) }
 {
     let counted = counted_bits(out, sel, a)?;

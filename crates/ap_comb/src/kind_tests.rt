@@ -138,6 +138,7 @@ const SHIFTED: &[(u64, u32, u64, &[u64])] = &[
 fn shifters_shift(rt: HostRuntime) -> Result<(), Fail> {
     let alloc = rt.alloc();
     for (op, w, a, values) in SHIFTED {
+        assert_eq!(rt; shifts_at(*w).len(), values.len());
         for (b, value) in shifts_at(*w).iter().zip(*values) {
             expect_shown(&rt, alloc, &Shift, *w, *op, (*a, *b), *value)?;
         }

@@ -1,7 +1,7 @@
 //! The bits above the highest 1.
 ghost use Rattle.std.specs.Prelude.{◌≡◌, ℕ, ◌-◌, ◌/◌, ◌^◌, ◌<◌, ◌≤◌, IfOk, OnOk, bit_or};
 ghost use Rattle.ap_net.specs.Cells.{IsNet};
-ghost use Rattle.ap_net.specs.Draft.{CanFresh, Makes, SettlesDraft};
+ghost use Rattle.ap_net.specs.Draft.{CanFresh, Makes, Means};
 ghost use Rattle.ap_bits.specs.Operations.{zeros_above};
 
 use crate::parts::{upper_bits, widened};
@@ -14,11 +14,13 @@ use ap_net::cell::{Cell, TwoOp, Wire};
 fn or_above(out: &mut Builder, x: Wire, places: u32) -> Result<Wire, NoMemory>
     requires fresh { CanFresh out.old }
     requires x { IsNet out.old.nets x }
-    requires high { x.width ≤ 64 }
     requires some { 1 ≤ places }
     requires within { places < x.width }
     ensures net { IfOk result (λ y. IsNet out.new.nets y × (y.width ≡ x.width)) }
-    ensures value { IfOk result (λ y. (read : ℕ → ℕ) → SettlesDraft out.new read → SettlesDraft out.old read × (read y.number ≡ bit_or (read x.number) (read x.number / 2 ^ places))) }
+    ensures value {
+        IfOk result (λ y. Means out.old out.new (λ read.
+            read y.number ≡ bit_or (read x.number) (read x.number / 2 ^ places)))
+    }
     ensures makes { OnOk result (Makes out.old out.new) }
 {
     let above = upper_bits(out, x, places)?;
@@ -32,10 +34,11 @@ fn or_above(out: &mut Builder, x: Wire, places: u32) -> Result<Wire, NoMemory>
 pub fn running_or(out: &mut Builder, x: Wire) -> Result<Wire, NoMemory>
     requires fresh { CanFresh out.old }
     requires x { IsNet out.old.nets x }
-    requires low { 1 ≤ x.width }
-    requires high { x.width ≤ 64 }
     ensures net { IfOk result (λ y. IsNet out.new.nets y × (y.width ≡ x.width)) }
-    ensures value { IfOk result (λ y. (read : ℕ → ℕ) → SettlesDraft out.new read → SettlesDraft out.old read × (read y.number ≡ 2 ^ (x.width - zeros_above x.width (read x.number)) - 1)) }
+    ensures value {
+        IfOk result (λ y. Means out.old out.new (λ read.
+            read y.number ≡ 2 ^ (x.width - zeros_above x.width (read x.number)) - 1))
+    }
     ensures makes { OnOk result (Makes out.old out.new) }
 {
     let mut run = x;

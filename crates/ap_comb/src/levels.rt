@@ -1,7 +1,7 @@
 //! Shifts by levels: level i moves a value by 2^i places where bit i of the shift is 1.
 ghost use Rattle.std.specs.Prelude.{◌≡◌, ℕ, ◌+◌, ◌-◌, ◌*◌, ◌/◌, ◌%◌, ◌^◌, ◌<◌, ◌≤◌, ◌==◌, if◌then◌else◌, IfOk, OnOk};
 ghost use Rattle.ap_net.specs.Cells.{IsNet};
-ghost use Rattle.ap_net.specs.Draft.{CanFresh, Makes, SettlesDraft};
+ghost use Rattle.ap_net.specs.Draft.{CanFresh, Makes, Means};
 ghost use Rattle.ap_comb.specs.Moves.{moved_left, moved_right, moved, inlet};
 
 use crate::parts::{bit, lower_bits, repeated, upper_bits};
@@ -23,13 +23,16 @@ pub enum Way {
 fn incoming(out: &mut Builder, x: Wire, turn: Wire, places: u32) -> Result<Wire, NoMemory>
     requires fresh { CanFresh out.old }
     requires x { IsNet out.old.nets x }
-    requires high { x.width ≤ 64 }
     requires turn { IsNet out.old.nets turn }
     requires one_bit { turn.width ≡ 1 }
     requires some { 1 ≤ places }
     requires within { places < x.width }
     ensures net { IfOk result (λ y. IsNet out.new.nets y × (y.width ≡ places)) }
-    ensures value { IfOk result (λ y. (read : ℕ → ℕ) → SettlesDraft out.new read → SettlesDraft out.old read × (read y.number ≡ (if read turn.number == 1 then read x.number / 2 ^ (x.width - places) else 0))) }
+    ensures value {
+        IfOk result (λ y. Means out.old out.new (λ read.
+            read y.number ≡ (if read turn.number == 1
+                then read x.number / 2 ^ (x.width - places) else 0)))
+    }
     ensures makes { OnOk result (Makes out.old out.new) }
 {
     let gone = upper_bits(out, x, x.width - places)?;
@@ -43,13 +46,15 @@ fn incoming(out: &mut Builder, x: Wire, turn: Wire, places: u32) -> Result<Wire,
 fn move_left(out: &mut Builder, x: Wire, turn: Wire, places: u32) -> Result<Wire, NoMemory>
     requires fresh { CanFresh out.old }
     requires x { IsNet out.old.nets x }
-    requires high { x.width ≤ 64 }
     requires turn { IsNet out.old.nets turn }
     requires one_bit { turn.width ≡ 1 }
     requires some { 1 ≤ places }
     requires within { places < x.width }
     ensures net { IfOk result (λ y. IsNet out.new.nets y × (y.width ≡ x.width)) }
-    ensures value { IfOk result (λ y. (read : ℕ → ℕ) → SettlesDraft out.new read → SettlesDraft out.old read × (read y.number ≡ moved_left (read turn.number == 1) x.width (read x.number) places)) }
+    ensures value {
+        IfOk result (λ y. Means out.old out.new (λ read.
+            read y.number ≡ moved_left (read turn.number == 1) x.width (read x.number) places))
+    }
     ensures makes { OnOk result (Makes out.old out.new) }
 {
     let below = incoming(out, x, turn, places)?;
@@ -63,13 +68,15 @@ fn move_left(out: &mut Builder, x: Wire, turn: Wire, places: u32) -> Result<Wire
 fn move_right(out: &mut Builder, x: Wire, fill: Wire, places: u32) -> Result<Wire, NoMemory>
     requires fresh { CanFresh out.old }
     requires x { IsNet out.old.nets x }
-    requires high { x.width ≤ 64 }
     requires fill { IsNet out.old.nets fill }
     requires one_bit { fill.width ≡ 1 }
     requires some { 1 ≤ places }
     requires within { places < x.width }
     ensures net { IfOk result (λ y. IsNet out.new.nets y × (y.width ≡ x.width)) }
-    ensures value { IfOk result (λ y. (read : ℕ → ℕ) → SettlesDraft out.new read → SettlesDraft out.old read × (read y.number ≡ moved_right (read fill.number == 1) x.width (read x.number) places)) }
+    ensures value {
+        IfOk result (λ y. Means out.old out.new (λ read.
+            read y.number ≡ moved_right (read fill.number == 1) x.width (read x.number) places))
+    }
     ensures makes { OnOk result (Makes out.old out.new) }
 {
     let above = repeated(out, fill, places)?;
@@ -82,13 +89,15 @@ fn move_right(out: &mut Builder, x: Wire, fill: Wire, places: u32) -> Result<Wir
 fn move_by(out: &mut Builder, way: Way, x: Wire, places: u32) -> Result<Wire, NoMemory>
     requires fresh { CanFresh out.old }
     requires x { IsNet out.old.nets x }
-    requires high { x.width ≤ 64 }
     requires way { IsNet out.old.nets (inlet way) }
     requires one_bit { (inlet way).width ≡ 1 }
     requires some { 1 ≤ places }
     requires within { places < x.width }
     ensures net { IfOk result (λ y. IsNet out.new.nets y × (y.width ≡ x.width)) }
-    ensures value { IfOk result (λ y. (read : ℕ → ℕ) → SettlesDraft out.new read → SettlesDraft out.old read × (read y.number ≡ moved read way x.width (read x.number) places)) }
+    ensures value {
+        IfOk result (λ y. Means out.old out.new (λ read.
+            read y.number ≡ moved read way x.width (read x.number) places))
+    }
     ensures makes { OnOk result (Makes out.old out.new) }
 {
     match way {
@@ -102,7 +111,6 @@ fn move_by(out: &mut Builder, way: Way, x: Wire, places: u32) -> Result<Wire, No
 fn level(out: &mut Builder, way: Way, x: Wire, by: Wire, places: u32) -> Result<Wire, NoMemory>
     requires fresh { CanFresh out.old }
     requires x { IsNet out.old.nets x }
-    requires high { x.width ≤ 64 }
     requires way { IsNet out.old.nets (inlet way) }
     requires one_bit { (inlet way).width ≡ 1 }
     requires by { IsNet out.old.nets by }
@@ -110,7 +118,11 @@ fn level(out: &mut Builder, way: Way, x: Wire, by: Wire, places: u32) -> Result<
     requires some { 1 ≤ places }
     requires within { places < x.width }
     ensures net { IfOk result (λ y. IsNet out.new.nets y × (y.width ≡ x.width)) }
-    ensures value { IfOk result (λ y. (read : ℕ → ℕ) → SettlesDraft out.new read → SettlesDraft out.old read × (read y.number ≡ (if read by.number == 1 then moved read way x.width (read x.number) places else read x.number))) }
+    ensures value {
+        IfOk result (λ y. Means out.old out.new (λ read.
+            read y.number ≡ (if read by.number == 1
+                then moved read way x.width (read x.number) places else read x.number)))
+    }
     ensures makes { OnOk result (Makes out.old out.new) }
 {
     let away = move_by(out, way, x, places)?;
@@ -130,13 +142,15 @@ pub fn shift_by_levels(
     requires fresh { CanFresh out.old }
     requires x { IsNet out.old.nets x }
     requires width { x.width ≡ 2 ^ count }
-    requires high { x.width ≤ 64 }
     requires way { IsNet out.old.nets (inlet way) }
     requires one_bit { (inlet way).width ≡ 1 }
     requires by { IsNet out.old.nets by }
     requires bits { count ≤ by.width }
     ensures net { IfOk result (λ y. IsNet out.new.nets y × (y.width ≡ x.width)) }
-    ensures value { IfOk result (λ y. (read : ℕ → ℕ) → SettlesDraft out.new read → SettlesDraft out.old read × (read y.number ≡ moved read way x.width (read x.number) (read by.number % 2 ^ count))) }
+    ensures value {
+        IfOk result (λ y. Means out.old out.new (λ read.
+            read y.number ≡ moved read way x.width (read x.number) (read by.number % 2 ^ count)))
+    }
     ensures makes { OnOk result (Makes out.old out.new) }
 {
     let mut shifted = x;

@@ -5,8 +5,8 @@ ghost use Rattle.ap_bits.specs.declared.term.Term.{Bin, A, B, Const};
 ghost use Rattle.ap_bits.specs.declared.card.Widths.TheVariants.{Any};
 ghost use Rattle.ap_bits.specs.declared.card.Latency.TheVariants.{One};
 ghost use Rattle.ap_bits.specs.Operations.{binary_value};
-ghost use Rattle.ap_net.specs.Cells.{IsNet};
-ghost use Rattle.ap_net.specs.Draft.{CanFresh, Makes, SettlesDraft};
+ghost use Rattle.ap_net.specs.Cells.{IsNet, AreOfOneWidth};
+ghost use Rattle.ap_net.specs.Draft.{CanFresh, Makes, Means};
 
 use ap_bits::{NoMemory, mask};
 use ap_net::builder::Builder;
@@ -17,13 +17,13 @@ use ap_unit::{UnitKind, declare_inputs, show_result};
 #[tactic(auto, using(ap_net::proofs::Laws::laws))]
 fn not_both(out: &mut Builder, a: Wire, b: Wire) -> Result<Wire, NoMemory>
     requires fresh { CanFresh out.old }
-    requires a { IsNet out.old.nets a }
-    requires b { IsNet out.old.nets b }
-    requires same { b.width ≡ a.width }
-    requires low { 1 ≤ a.width }
-    requires high { a.width ≤ 64 }
+    requires operands { AreOfOneWidth out.old.nets a b }
     ensures net { IfOk result (λ y. IsNet out.new.nets y × (y.width ≡ a.width)) }
-    ensures value { IfOk result (λ y. (read : ℕ → ℕ) → SettlesDraft out.new read → SettlesDraft out.old read × (read y.number ≡ binary_value Xor a.width (binary_value And a.width (read a.number) (read b.number)) (2 ^ a.width - 1))) }
+    ensures value {
+        IfOk result (λ y. Means out.old out.new (λ read.
+            read y.number ≡ binary_value Xor a.width
+                (binary_value And a.width (read a.number) (read b.number)) (2 ^ a.width - 1)))
+    }
     ensures makes { OnOk result (Makes out.old out.new) }
 {
     let both = out.make(a.width, Cell::Two(TwoOp::And, a, b))?;

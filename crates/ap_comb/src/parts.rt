@@ -1,7 +1,7 @@
 //! Pieces of nets: some of their bits, and bits set beside them.
 ghost use Rattle.std.specs.Prelude.{◌≡◌, ℕ, ◌+◌, ◌-◌, ◌/◌, ◌%◌, ◌^◌, ◌<◌, ◌≤◌, ◌==◌, if◌then◌else◌, IfOk, OnOk};
 ghost use Rattle.ap_net.specs.Cells.{IsNet};
-ghost use Rattle.ap_net.specs.Draft.{CanFresh, Makes, SettlesDraft};
+ghost use Rattle.ap_net.specs.Draft.{CanFresh, Makes, Means};
 
 use ap_bits::{NoMemory, mask};
 use ap_net::builder::Builder;
@@ -12,11 +12,12 @@ use ap_net::cell::{Cell, Wire};
 pub fn lower_bits(out: &mut Builder, x: Wire, count: u32) -> Result<Wire, NoMemory>
     requires fresh { CanFresh out.old }
     requires x { IsNet out.old.nets x }
-    requires high { x.width ≤ 64 }
     requires some { 1 ≤ count }
     requires within { count ≤ x.width }
     ensures net { IfOk result (λ y. IsNet out.new.nets y × (y.width ≡ count)) }
-    ensures value { IfOk result (λ y. (read : ℕ → ℕ) → SettlesDraft out.new read → SettlesDraft out.old read × (read y.number ≡ read x.number % 2 ^ count)) }
+    ensures value {
+        IfOk result (λ y. Means out.old out.new (λ read. read y.number ≡ read x.number % 2 ^ count))
+    }
     ensures makes { OnOk result (Makes out.old out.new) }
 {
     let cut = out.make(count, Cell::Slice(x, count - 1, 0))?;
@@ -28,10 +29,11 @@ pub fn lower_bits(out: &mut Builder, x: Wire, count: u32) -> Result<Wire, NoMemo
 pub fn upper_bits(out: &mut Builder, x: Wire, from: u32) -> Result<Wire, NoMemory>
     requires fresh { CanFresh out.old }
     requires x { IsNet out.old.nets x }
-    requires high { x.width ≤ 64 }
     requires within { from < x.width }
     ensures net { IfOk result (λ y. IsNet out.new.nets y × (y.width ≡ x.width - from)) }
-    ensures value { IfOk result (λ y. (read : ℕ → ℕ) → SettlesDraft out.new read → SettlesDraft out.old read × (read y.number ≡ read x.number / 2 ^ from)) }
+    ensures value {
+        IfOk result (λ y. Means out.old out.new (λ read. read y.number ≡ read x.number / 2 ^ from))
+    }
     ensures makes { OnOk result (Makes out.old out.new) }
 {
     let cut = out.make(x.width - from, Cell::Slice(x, x.width - 1, from))?;
@@ -45,7 +47,10 @@ pub fn bit(out: &mut Builder, x: Wire, place: u32) -> Result<Wire, NoMemory>
     requires x { IsNet out.old.nets x }
     requires within { place < x.width }
     ensures net { IfOk result (λ y. IsNet out.new.nets y × (y.width ≡ 1)) }
-    ensures value { IfOk result (λ y. (read : ℕ → ℕ) → SettlesDraft out.new read → SettlesDraft out.old read × (read y.number ≡ read x.number / 2 ^ place % 2)) }
+    ensures value {
+        IfOk result (λ y. Means out.old out.new (λ read.
+            read y.number ≡ read x.number / 2 ^ place % 2))
+    }
     ensures makes { OnOk result (Makes out.old out.new) }
 {
     let cut = out.make(1, Cell::Slice(x, place, place))?;
@@ -61,7 +66,10 @@ pub fn repeated(out: &mut Builder, bit: Wire, count: u32) -> Result<Wire, NoMemo
     requires low { 1 ≤ count }
     requires high { count ≤ 64 }
     ensures net { IfOk result (λ y. IsNet out.new.nets y × (y.width ≡ count)) }
-    ensures value { IfOk result (λ y. (read : ℕ → ℕ) → SettlesDraft out.new read → SettlesDraft out.old read × (read y.number ≡ (if read bit.number == 1 then 2 ^ count - 1 else 0))) }
+    ensures value {
+        IfOk result (λ y. Means out.old out.new (λ read.
+            read y.number ≡ (if read bit.number == 1 then 2 ^ count - 1 else 0)))
+    }
     ensures makes { OnOk result (Makes out.old out.new) }
 {
     let ones = out.make(count, Cell::Const(mask(count)))?;
@@ -75,11 +83,12 @@ pub fn repeated(out: &mut Builder, bit: Wire, count: u32) -> Result<Wire, NoMemo
 pub fn widened(out: &mut Builder, x: Wire, width: u32) -> Result<Wire, NoMemory>
     requires fresh { CanFresh out.old }
     requires x { IsNet out.old.nets x }
-    requires low { 1 ≤ x.width }
     requires room { x.width ≤ width }
     requires high { width ≤ 64 }
     ensures net { IfOk result (λ y. IsNet out.new.nets y × (y.width ≡ width)) }
-    ensures value { IfOk result (λ y. (read : ℕ → ℕ) → SettlesDraft out.new read → SettlesDraft out.old read × (read y.number ≡ read x.number)) }
+    ensures value {
+        IfOk result (λ y. Means out.old out.new (λ read. read y.number ≡ read x.number))
+    }
     ensures makes { OnOk result (Makes out.old out.new) }
 {
     if width == x.width {

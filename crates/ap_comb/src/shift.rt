@@ -1,13 +1,14 @@
 //! The kind `shift`: shifts to the left and to the right, and a rotation.
 ghost use Rattle.std.specs.Prelude.{◌≡◌, ℕ, ◌-◌, ◌/◌, ◌%◌, ◌^◌, ◌<◌, ◌≤◌, ◌==◌, nat_lt, if◌then◌else◌, IfOk, OnOk, slice_get, Some, bit_and, bit_or, bit_xor, length, IsTrue, ◌∷◌, [], codes};
-ghost use Rattle.ap_net.specs.Cells.{IsNet};
-ghost use Rattle.ap_net.specs.Draft.{CanFresh, Makes, SettlesDraft};
+ghost use Rattle.ap_net.specs.Cells.{IsNet, AreOfOneWidth};
+ghost use Rattle.ap_net.specs.Draft.{CanFresh, Makes, Means};
 ghost use Rattle.ap_bits.specs.declared.term.BinOp.{BinOp};
 ghost use Rattle.ap_bits.specs.Operations.{binary_value};
 ghost use Rattle.ap_comb.specs.Moves.{moved_left, moved_right};
 ghost use Rattle.ap_bits.specs.Cards.{allows};
 ghost use Rattle.ap_bits.specs.declared.card.Widths.TheVariants.{PowersOfTwo};
-ghost use Rattle.ap_comb.specs.Shifts.{shift_ops, shift_card};
+ghost use Rattle.ap_bits.specs.KindCards.{shift_card};
+ghost use Rattle.ap_comb.specs.Shifts.{shift_ops};
 ghost use Rattle.ap_bits.specs.Cards.{FitsWidth};
 ghost use Rattle.ap_unit.specs.Built.{IsBlank, IsUnitDraft};
 ghost use Rattle.ap_unit.specs.Named.{NamesPlainly};
@@ -25,10 +26,12 @@ use ap_unit::{UnitKind, declare_inputs, show_result};
 pub fn is_within(out: &mut Builder, shift: Wire, count: u32) -> Result<Wire, NoMemory>
     requires fresh { CanFresh out.old }
     requires shift { IsNet out.old.nets shift }
-    requires high { shift.width ≤ 64 }
     requires bits { count < shift.width }
     ensures net { IfOk result (λ y. IsNet out.new.nets y × (y.width ≡ 1)) }
-    ensures value { IfOk result (λ y. (read : ℕ → ℕ) → SettlesDraft out.new read → SettlesDraft out.old read × (read y.number ≡ (if nat_lt (read shift.number) (2 ^ count) then 1 else 0))) }
+    ensures value {
+        IfOk result (λ y. Means out.old out.new (λ read.
+            read y.number ≡ (if nat_lt (read shift.number) (2 ^ count) then 1 else 0)))
+    }
     ensures makes { OnOk result (Makes out.old out.new) }
 {
     let beyond = upper_bits(out, shift, count)?;
@@ -44,9 +47,11 @@ pub fn fill_bit(out: &mut Builder, signed: Wire, a: Wire) -> Result<Wire, NoMemo
     requires signed { IsNet out.old.nets signed }
     requires one_bit { signed.width ≡ 1 }
     requires a { IsNet out.old.nets a }
-    requires some { 1 ≤ a.width }
     ensures net { IfOk result (λ y. IsNet out.new.nets y × (y.width ≡ 1)) }
-    ensures value { IfOk result (λ y. (read : ℕ → ℕ) → SettlesDraft out.new read → SettlesDraft out.old read × (read y.number ≡ bit_and (read signed.number) (read a.number / 2 ^ (a.width - 1) % 2))) }
+    ensures value {
+        IfOk result (λ y. Means out.old out.new (λ read.
+            read y.number ≡ bit_and (read signed.number) (read a.number / 2 ^ (a.width - 1) % 2)))
+    }
     ensures makes { OnOk result (Makes out.old out.new) }
 {
     let sign = bit(out, a, a.width - 1)?;
@@ -73,11 +78,15 @@ pub fn make_control(out: &mut Builder, sel: Wire, a: Wire) -> Result<Control, No
     requires sel { IsNet out.old.nets sel }
     requires two_bits { sel.width ≡ 2 }
     requires a { IsNet out.old.nets a }
-    requires some { 1 ≤ a.width }
     ensures low { IfOk result (λ c. IsNet out.new.nets c.low × (c.low.width ≡ 1)) }
     ensures high { IfOk result (λ c. IsNet out.new.nets c.high × (c.high.width ≡ 1)) }
     ensures fill { IfOk result (λ c. IsNet out.new.nets c.fill × (c.fill.width ≡ 1)) }
-    ensures value { IfOk result (λ c. (read : ℕ → ℕ) → SettlesDraft out.new read → SettlesDraft out.old read × (read c.low.number ≡ read sel.number / 2 ^ 0 % 2) × (read c.high.number ≡ read sel.number / 2 ^ 1 % 2) × (read c.fill.number ≡ bit_and (read sel.number / 2 ^ 1 % 2) (read a.number / 2 ^ (a.width - 1) % 2))) }
+    ensures value {
+        IfOk result (λ c. Means out.old out.new (λ read.
+            (read c.low.number ≡ read sel.number / 2 ^ 0 % 2) × (read c.high.number
+            ≡ read sel.number / 2 ^ 1 % 2) × (read c.fill.number
+            ≡ bit_and (read sel.number / 2 ^ 1 % 2) (read a.number / 2 ^ (a.width - 1) % 2))))
+    }
     ensures makes { OnOk result (Makes out.old out.new) }
 {
     let low = bit(out, sel, 0)?;
@@ -102,10 +111,16 @@ pub fn shift_near(
     requires a { IsNet out.old.nets a }
     requires b { IsNet out.old.nets b }
     requires width { a.width ≡ 2 ^ count }
-    requires within { a.width ≤ 64 }
     requires bits { count ≤ b.width }
     ensures net { IfOk result (λ y. IsNet out.new.nets y × (y.width ≡ a.width)) }
-    ensures value { IfOk result (λ y. (read : ℕ → ℕ) → SettlesDraft out.new read → SettlesDraft out.old read × (read y.number ≡ (if bit_xor (read control.low.number) (read control.high.number) == 1 then moved_right (read control.fill.number == 1) a.width (read a.number) (read b.number % 2 ^ count) else moved_left (read control.high.number == 1) a.width (read a.number) (read b.number % 2 ^ count)))) }
+    ensures value {
+        IfOk result (λ y. Means out.old out.new (λ read.
+            read y.number ≡ (if bit_xor (read control.low.number) (read control.high.number) == 1
+                then moved_right (read control.fill.number == 1) a.width (read a.number)
+                    (read b.number % 2 ^ count)
+                else moved_left (read control.high.number == 1) a.width (read a.number)
+                    (read b.number % 2 ^ count))))
+    }
     ensures makes { OnOk result (Makes out.old out.new) }
 {
     let left = shift_by_levels(out, Way::Left(control.high), a, b, count)?;
@@ -129,13 +144,16 @@ pub fn limited(
     requires high { IsNet out.old.nets control.high × (control.high.width ≡ 1) }
     requires fill { IsNet out.old.nets control.fill × (control.fill.width ≡ 1) }
     requires near { IsNet out.old.nets near }
-    requires some { 1 ≤ near.width }
-    requires near_high { near.width ≤ 64 }
     requires b { IsNet out.old.nets b }
-    requires b_high { b.width ≤ 64 }
     requires bits { count < b.width }
     ensures net { IfOk result (λ y. IsNet out.new.nets y × (y.width ≡ near.width)) }
-    ensures value { IfOk result (λ y. (read : ℕ → ℕ) → SettlesDraft out.new read → SettlesDraft out.old read × (read y.number ≡ (if bit_or (if nat_lt (read b.number) (2 ^ count) then 1 else 0) (bit_and (read control.low.number) (read control.high.number)) == 1 then read near.number else (if read control.fill.number == 1 then 2 ^ near.width - 1 else 0)))) }
+    ensures value {
+        IfOk result (λ y. Means out.old out.new (λ read.
+            read y.number ≡ (if bit_or (if nat_lt (read b.number) (2 ^ count) then 1 else 0)
+                    (bit_and (read control.low.number) (read control.high.number)) == 1
+                then read near.number
+                else (if read control.fill.number == 1 then 2 ^ near.width - 1 else 0))))
+    }
     ensures makes { OnOk result (Makes out.old out.new) }
 {
     let within = is_within(out, b, count)?;
@@ -152,13 +170,14 @@ pub fn shifted(out: &mut Builder, sel: Wire, a: Wire, b: Wire, count: u32) -> Re
     requires fresh { CanFresh out.old }
     requires sel { IsNet out.old.nets sel }
     requires two_bits { sel.width ≡ 2 }
-    requires a { IsNet out.old.nets a }
-    requires b { IsNet out.old.nets b }
-    requires same { b.width ≡ a.width }
+    requires operands { AreOfOneWidth out.old.nets a b }
     requires width { a.width ≡ 2 ^ count }
-    requires within { a.width ≤ 64 }
     ensures net { IfOk result (λ y. IsNet out.new.nets y × (y.width ≡ a.width)) }
-    ensures value { IfOk result (λ y. (read : ℕ → ℕ) → SettlesDraft out.new read → SettlesDraft out.old read × ((op : BinOp) → slice_get shift_ops (read sel.number) ≡ Some op → read y.number ≡ binary_value op a.width (read a.number) (read b.number))) }
+    ensures value {
+        IfOk result (λ y. Means out.old out.new (λ read.
+            (op : BinOp) → slice_get shift_ops (read sel.number) ≡ Some op
+                → read y.number ≡ binary_value op a.width (read a.number) (read b.number)))
+    }
     ensures makes { OnOk result (Makes out.old out.new) }
 {
     let control = make_control(out, sel, a)?;

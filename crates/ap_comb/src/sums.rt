@@ -1,7 +1,7 @@
 //! How many bits are 1, by a balanced tree of sums.
 ghost use Rattle.std.specs.Prelude.{◌≡◌, ℕ, ◌+◌, ◌/◌, ◌^◌, ◌<◌, ◌≤◌, IfOk, OnOk};
 ghost use Rattle.ap_net.specs.Cells.{IsNet};
-ghost use Rattle.ap_net.specs.Draft.{CanFresh, Makes, SettlesDraft};
+ghost use Rattle.ap_net.specs.Draft.{CanFresh, Makes, Means};
 ghost use Rattle.ap_bits.specs.Operations.{ones_among};
 
 use crate::parts::{bit, widened};
@@ -18,7 +18,10 @@ fn wide_bit(out: &mut Builder, x: Wire, place: u32, width: u32) -> Result<Wire, 
     requires some { 1 ≤ width }
     requires high { width ≤ 64 }
     ensures net { IfOk result (λ y. IsNet out.new.nets y × (y.width ≡ width)) }
-    ensures value { IfOk result (λ y. (read : ℕ → ℕ) → SettlesDraft out.new read → SettlesDraft out.old read × (read y.number ≡ ones_among 1 (read x.number / 2 ^ place))) }
+    ensures value {
+        IfOk result (λ y. Means out.old out.new (λ read.
+            read y.number ≡ ones_among 1 (read x.number / 2 ^ place)))
+    }
     ensures makes { OnOk result (Makes out.old out.new) }
 {
     let narrow = bit(out, x, place)?;
@@ -31,14 +34,16 @@ fn wide_bit(out: &mut Builder, x: Wire, place: u32, width: u32) -> Result<Wire, 
 fn ones_from(out: &mut Builder, x: Wire, low: u32, count: u32, width: u32) -> Result<Wire, NoMemory>
     requires fresh { CanFresh out.old }
     requires x { IsNet out.old.nets x }
-    requires x_high { x.width ≤ 64 }
     requires some { 1 ≤ count }
     requires within { low + count ≤ x.width }
     requires room { count < 2 ^ width }
     requires width { 1 ≤ width }
     requires high { width ≤ 64 }
     ensures net { IfOk result (λ y. IsNet out.new.nets y × (y.width ≡ width)) }
-    ensures value { IfOk result (λ y. (read : ℕ → ℕ) → SettlesDraft out.new read → SettlesDraft out.old read × (read y.number ≡ ones_among count (read x.number / 2 ^ low))) }
+    ensures value {
+        IfOk result (λ y. Means out.old out.new (λ read.
+            read y.number ≡ ones_among count (read x.number / 2 ^ low)))
+    }
     ensures makes { OnOk result (Makes out.old out.new) }
 {
     if count == 1 {
@@ -56,10 +61,11 @@ fn ones_from(out: &mut Builder, x: Wire, low: u32, count: u32, width: u32) -> Re
 pub fn ones(out: &mut Builder, x: Wire) -> Result<Wire, NoMemory>
     requires fresh { CanFresh out.old }
     requires x { IsNet out.old.nets x }
-    requires low { 1 ≤ x.width }
-    requires high { x.width ≤ 64 }
     ensures net { IfOk result (λ y. IsNet out.new.nets y × (y.width ≡ x.width)) }
-    ensures value { IfOk result (λ y. (read : ℕ → ℕ) → SettlesDraft out.new read → SettlesDraft out.old read × (read y.number ≡ ones_among x.width (read x.number))) }
+    ensures value {
+        IfOk result (λ y. Means out.old out.new (λ read.
+            read y.number ≡ ones_among x.width (read x.number)))
+    }
     ensures makes { OnOk result (Makes out.old out.new) }
 {
     let counted = ones_from(out, x, 0, x.width, x.width.min(7))?;

@@ -2,6 +2,7 @@
 use Rattle.std.specs.Prelude.{ℕ, List, [], ◌∷◌, ◌++◌, map, fold, flat_map, find, sum_by, zip, Option, Some, None, option_map, option_to_list, if◌then◌else◌}
 use Rattle.std.specs.Option.{option_map_or}
 use Rattle.std.specs.Str.{bytes_eq}
+use Rattle.ap_bits.specs.Cards.{operation_names}
 use Rattle.ap_bits.specs.declared.card.Card.{Card}
 use Rattle.ap_desc.specs.declared.description.Numbered.{Numbered}
 use Rattle.ap_desc.specs.declared.statement.FieldNumber.{FieldNumber}
@@ -19,7 +20,7 @@ use Rattle.ap_desc.specs.declared.design.Act.{Act}
 use Rattle.ap_desc.specs.declared.design.Act.TheVariants as act
 use Rattle.ap_desc.specs.Designs.{widths_of, mask_bits, value_bits}
 use Rattle.ap_desc.specs.Order.{is_micro}
-use Rattle.ap_desc.specs.Parts.{place_of, reg_names, file_names, mem_names, input_names, unit_names, format_names, names_of_fields, fields_named, operation_names, card_of_unit}
+use Rattle.ap_desc.specs.Parts.{place_of, reg_names, file_names, mem_names, input_names, unit_names, format_names, names_of_fields, fields_named, card_of_unit}
 use Rattle.ap_desc.specs.Reserved.{is_among}
 
 -- an instruction as the text has it: what its first line says, and its micro-operations

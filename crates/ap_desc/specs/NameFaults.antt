@@ -3,6 +3,7 @@
 use Rattle.std.specs.Prelude.{ℕ, ◌&&◌, ◌||◌, nat_lt, not, Bool, true, false, List, Option}
 use Rattle.std.specs.List.{list_any}
 use Rattle.std.specs.Option.{option_map_or}
+use Rattle.ap_bits.specs.Cards.{operation_names}
 use Rattle.ap_bits.specs.declared.card.Card.{Card}
 use Rattle.ap_desc.specs.declared.statement.FieldNumber.{FieldNumber}
 use Rattle.ap_desc.specs.declared.statement.Word.{Word}
@@ -11,7 +12,7 @@ use Rattle.ap_desc.specs.declared.statement.Statement.{Statement}
 use Rattle.ap_desc.specs.declared.statement.Statement.TheVariants as s
 use Rattle.ap_desc.specs.declared.design.File.{File}
 use Rattle.ap_desc.specs.Instructions.{assigned_name}
-use Rattle.ap_desc.specs.Parts.{reg_names, mem_names, input_names, unit_names, format_names, names_of_fields, fields_named, file_named, kind_names, operation_names, card_of_unit}
+use Rattle.ap_desc.specs.Parts.{reg_names, mem_names, input_names, unit_names, format_names, names_of_fields, fields_named, file_named, kind_names, card_of_unit}
 use Rattle.ap_desc.specs.Reserved.{is_among}
 use Rattle.ap_desc.specs.Scope.{Scope}
 use Rattle.ap_desc.specs.Sound.{are_distinct, names_of_parts}

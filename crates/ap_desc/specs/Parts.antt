@@ -4,7 +4,6 @@ use Rattle.std.specs.List.{position_or_len}
 use Rattle.std.specs.Option.{option_map_or}
 use Rattle.std.specs.Str.{bytes_eq}
 use Rattle.ap_bits.specs.declared.card.Card.{Card}
-use Rattle.ap_bits.specs.declared.card.OpCard.{OpCard}
 use Rattle.ap_desc.specs.declared.design.Design.{Design}
 use Rattle.ap_desc.specs.declared.design.Reg.{Reg}
 use Rattle.ap_desc.specs.declared.design.File.{File}
@@ -60,9 +59,6 @@ card_named cards kind = named (λ (c : Card). c.name) cards kind
 
 abbrev pub kind_names : List Card → List (List ℕ)
 kind_names cards = map (λ (c : Card). c.name) cards
-
-abbrev pub operation_names : Card → List (List ℕ)
-operation_names card = map (λ (o : OpCard). o.name) card.ops
 
 -- the card of the unit of this name
 abbrev pub card_of_unit : List Card → Design → List ℕ → Option Card

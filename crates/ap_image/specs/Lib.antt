@@ -1,3 +1,4 @@
 pub mod FitsShape
 pub mod Rows
 pub mod Shapes
+pub mod Words

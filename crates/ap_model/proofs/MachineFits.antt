@@ -25,7 +25,8 @@ use Rattle.ap_model.specs.Cycles.{CycleControl, fetched, flight_at, unkilled_num
 use Rattle.ap_model.specs.DesignShape.{shape_of}
 use Rattle.ap_model.specs.Fitting.{FlightFits, FlightsFit, PortsFit, StoragesFit, WordStands, WritesFit, CountsWithin, StateFits, assigned_by, lines_before, port_width}
 use Rattle.ap_model.specs.States.{start_storages}
-use Rattle.ap_model.specs.Stored.{with_value, with_word, with_write, with_writes}
+use Rattle.ap_image.specs.Words.{with_word}
+use Rattle.ap_model.specs.Stored.{with_value, with_write, with_writes}
 use Rattle.ap_model.proofs.EffectLemmas.{each_append}
 use Rattle.ap_model.proofs.StageLemmas.{none_at_first, word_is_good}
 

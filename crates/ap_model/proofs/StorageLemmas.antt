@@ -1,6 +1,6 @@
 -- Lists with one element set, and the storages after writes.
 use Rattle.std.proofs.Common.{◌≡◌, ℕ, zero, suc, ◌≤◌, ◌<◌, List, [], ◌∷◌, ◌++◌, length, set, refl, ap, arith}
-use Rattle.ap_model.specs.Stored.{with_word}
+use Rattle.ap_image.specs.Words.{with_word}
 
 pub set_beyond : (xs : List ℕ) (i v : ℕ) → length xs ≤ i → set xs i v ≡ xs
 set_beyond [] i v h = refl

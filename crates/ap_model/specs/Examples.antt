@@ -2,13 +2,7 @@
 -- three units and eleven instructions. Line numbers are those of its text, in the order of the lists below.
 use Rattle.std.specs.Prelude.{ℕ, ◌+◌, ◌++◌, List, [], ◌∷◌, codes, replicate, Some, None, true, false}
 use Rattle.ap_bits.specs.declared.card.Card.{Card}
-use Rattle.ap_bits.specs.declared.card.OpCard.{OpCard}
-use Rattle.ap_bits.specs.declared.card.Latency.TheVariants.{One, WidthPlusOne}
-use Rattle.ap_bits.specs.declared.card.Widths.TheVariants.{Any, PowersOfTwo}
-use Rattle.ap_bits.specs.declared.term.BinOp.{BinOp}
-use Rattle.ap_bits.specs.declared.term.BinOp.TheVariants as two
-use Rattle.ap_bits.specs.declared.term.UnOp.TheVariants as one
-use Rattle.ap_bits.specs.declared.term.Term.{Term, Un, Bin, A, B, Const}
+use Rattle.ap_bits.specs.KindCards.{alu_card, shift_card, count_card, avg_card, mul_card}
 use Rattle.ap_desc.specs.declared.design.Design.{Design}
 use Rattle.ap_desc.specs.declared.design.File.{File}
 use Rattle.ap_desc.specs.declared.design.Format.{Format}
@@ -30,41 +24,7 @@ use Rattle.ap_desc.specs.declared.design.Act.TheVariants as act
 use Rattle.ap_desc.specs.declared.design.Arg.{Arg}
 use Rattle.ap_desc.specs.declared.design.Arg.TheVariants as arg
 
--- an operation on both operands
-abbrev pub both : BinOp → Term
-both op = Bin op A B
-
-abbrev pub operation : List ℕ → Term → OpCard
-operation name term = record { name = name; term = term }
-
 -- the cards of the shelf, in its order
-abbrev pub alu_card : Card
-alu_card = record {
-  name = codes "alu";
-  ops = operation (codes "add") (both two.Add) ∷ operation (codes "sub") (both two.Sub) ∷ operation (codes "and") (both two.And)
-      ∷ operation (codes "or") (both two.Or) ∷ operation (codes "xor") (both two.Xor) ∷ operation (codes "eq") (both two.Eq)
-      ∷ operation (codes "ltu") (both two.Ltu) ∷ operation (codes "lts") (both two.Lts) ∷ operation (codes "pass") (Un one.Pass A) ∷ [];
-  widths = Any;
-  latency = One;
-}
-
-abbrev pub shift_card : Card
-shift_card = record {
-  name = codes "shift";
-  ops = operation (codes "sll") (both two.Sll) ∷ operation (codes "srl") (both two.Srl) ∷ operation (codes "sra") (both two.Sra) ∷ operation (codes "rol") (both two.Rol) ∷ [];
-  widths = PowersOfTwo;
-  latency = One;
-}
-
-abbrev pub count_card : Card
-count_card = record { name = codes "count"; ops = operation (codes "pop") (Un one.Pop A) ∷ operation (codes "clz") (Un one.Clz A) ∷ []; widths = Any; latency = One }
-
-abbrev pub avg_card : Card
-avg_card = record { name = codes "avg"; ops = operation (codes "avg") (Bin two.Srl (both two.Add) (Const 1)) ∷ []; widths = Any; latency = One }
-
-abbrev pub mul_card : Card
-mul_card = record { name = codes "mul"; ops = operation (codes "mullo") (both two.Mullo) ∷ operation (codes "mulhi") (both two.Mulhi) ∷ []; widths = Any; latency = WidthPlusOne }
-
 abbrev pub example_cards : List Card
 example_cards = alu_card ∷ shift_card ∷ count_card ∷ avg_card ∷ mul_card ∷ []
 

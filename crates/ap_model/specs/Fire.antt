@@ -4,9 +4,8 @@ use Rattle.std.specs.Prelude.{ℕ, ◌+◌, ◌-◌, ◌*◌, ◌/◌, ◌%◌, 
 use Rattle.std.specs.List.{flat_map}
 use Rattle.std.specs.Option.{option_map_or}
 use Rattle.ap_bits.specs.Operations.{sign_extended}
-use Rattle.ap_bits.specs.Terms.{term_value}
+use Rattle.ap_bits.specs.Cards.{operation_value}
 use Rattle.ap_bits.specs.declared.card.Card.{Card}
-use Rattle.ap_bits.specs.declared.card.OpCard.{OpCard}
 use Rattle.ap_desc.specs.Designs.{field_value, arg_width}
 use Rattle.ap_desc.specs.declared.design.Design.{Design}
 use Rattle.ap_desc.specs.declared.design.Unit.{Unit as Resource}
@@ -68,14 +67,10 @@ arg_value sight locals arg.Link = link_of sight.design sight.place
 abbrev pub bits_of_arg : Sight → Arg → ℕ
 bits_of_arg sight a = arg_width sight.design sight.instr.locals (fields_of sight.design sight.instr) a
 
--- what a kind's operation gives at w bits: the value of the term on its card
-abbrev pub card_value : Card → ℕ → ℕ → ℕ → ℕ → ℕ
-card_value card op w a b = option_map_or (λ (o : OpCard). term_value o.term w a b) (slice_get card.ops op) 0
-
 -- what an operation of a unit gives: the value of its kind's card
 unfoldable pub unit_value : Design → List Card → ℕ → ℕ → ℕ → ℕ → ℕ
 unit_value design cards unit op a b =
-    option_map_or (λ (u : Resource). option_map_or (λ (card : Card). card_value card op u.width a b) (slice_get cards u.kind) 0) (slice_get design.units unit) 0
+    option_map_or (λ (u : Resource). option_map_or (λ (card : Card). operation_value card u.width op a b) (slice_get cards u.kind) 0) (slice_get design.units unit) 0
 
 -- what a line assigns to the next local, if it assigns one; value gives the value of each operand
 abbrev pub act_value : Sight → (Arg → ℕ) → ℕ → Act → Option ℕ

@@ -1,6 +1,7 @@
 -- What a processor stores, and what a write changes: registers, files of cells, and data memories. A word of a memory that was
 -- never given is 0.
-use Rattle.std.specs.Prelude.{ℕ, zero, suc, List, [], ◌∷◌, fold, slice_index, slice_index_or, slice_set}
+use Rattle.std.specs.Prelude.{ℕ, List, [], fold, slice_index, slice_index_or, slice_set}
+use Rattle.ap_image.specs.Words.{with_word}
 use Rattle.ap_model.specs.declared.storage.Storages.{Storages}
 use Rattle.ap_model.specs.declared.storage.WritePort.{WritePort}
 use Rattle.ap_model.specs.declared.storage.WritePort.TheVariants as port
@@ -17,13 +18,6 @@ file_cell_value storages file index = slice_index (slice_index_or storages.files
 -- the word of a memory at an address
 abbrev pub word_value : Storages → ℕ → ℕ → ℕ
 word_value storages mem address = slice_index (slice_index_or storages.mems mem []) address
-
--- the words with one of them written: those that lie before it and weren't given are 0
-abbrev pub with_word : List ℕ → ℕ → ℕ → List ℕ
-with_word [] zero value = value ∷ []
-with_word [] (suc address) value = 0 ∷ with_word [] address value
-with_word (word ∷ words) zero value = value ∷ words
-with_word (word ∷ words) (suc address) value = word ∷ with_word words address value
 
 -- the storages after a value was written through a port, at an index or an address
 abbrev pub with_value : Storages → WritePort → ℕ → ℕ → Storages

@@ -9,7 +9,7 @@ use Rattle.ap_net.specs.declared.cell.Wire.{Wire}
 use Rattle.ap_net.specs.declared.cell.Cell.{Cell}
 use Rattle.ap_net.specs.declared.net.ModuleNet.{ModuleNet}
 use Rattle.ap_net.specs.declared.net.Assign.{Assign}
-use Rattle.ap_net.specs.Cells.{operands, IsNet, CellFits, cell_value}
+use Rattle.ap_net.specs.Cells.{operands, IsNet, AreOfOneWidth, CellFits, cell_value}
 use Rattle.ap_net.specs.declared.net.Role.TheVariants as role
 use Rattle.ap_net.specs.Names.{IsNew}
 use Rattle.ap_net.specs.Wiring.{IsSource, reset_of, names_taken, Holds, Ranked, IsWired, IsConnected}
@@ -246,3 +246,6 @@ Makes-trans a b c p q = record {
 
 pub IsNet-Makes : (a b : Draft) (w : Wire) → Makes a b → IsNet a.nets w → IsNet b.nets w
 IsNet-Makes a b w m h = IsNet-Adds a b w m.adds h
+
+pub AreOfOneWidth-Makes : (a b : Draft) (x y : Wire) → Makes a b → AreOfOneWidth a.nets x y → AreOfOneWidth b.nets x y
+AreOfOneWidth-Makes a b x y m h = record { first = IsNet-Makes a b x m h.first; second = IsNet-Makes a b y m h.second; same = h.same }

@@ -1,5 +1,5 @@
 -- What callers of a builder chain pieces of circuit by, and what they know of an opened netlist.
-pub use Rattle.ap_net.proofs.Drafts.{IsNet-Adds, CellFits-Adds, net-Adds, Settles-before, Adds-refl, Adds-trans, Closes-refl, Closes-trans, Makes-refl, Makes-trans, IsNet-Makes, IsNew-made, ports_among-shown}
+pub use Rattle.ap_net.proofs.Drafts.{IsNet-Adds, CellFits-Adds, net-Adds, Settles-before, Adds-refl, Adds-trans, Closes-refl, Closes-trans, Makes-refl, Makes-trans, IsNet-Makes, AreOfOneWidth-Makes, IsNew-made, ports_among-shown}
 pub use Rattle.ap_net.proofs.Placing.{Places-Makes, Places-trans, SettlesOpen-before}
 pub use Rattle.ap_net.proofs.NameLemmas.{IsNew-is_new, IsNotNumbered-other, is_other_letter, IsNetName-numbered_kind}
 pub use Rattle.ap_net.proofs.Netlists.{named_once, earlier-push, last-push}
@@ -8,4 +8,4 @@ pub use Rattle.ap_net.proofs.Registers.{held_all, held_fits, after_fit, reset_fi
 pub use Rattle.ap_net.proofs.Parts.{own_net_at, spread-own, spread-part}
 pub use Rattle.ap_net.proofs.Beside.{IsInstanceIn-placed, top_net_at}
 
-pub ruleset laws = (IsNet-Adds, IsNet-Makes, CellFits-Adds, Adds-refl, Adds-trans, Makes-refl, Makes-trans)
+pub ruleset laws = (IsNet-Adds, IsNet-Makes, AreOfOneWidth-Makes, CellFits-Adds, Adds-refl, Adds-trans, Makes-refl, Makes-trans)

@@ -8,7 +8,8 @@ use Rattle.std.proofs.lemmas.Str.{IsUtf8-from_ascii}
 use Rattle.std.proofs.lemmas.List.Folds.{list_all-append}
 use Rattle.std.proofs.lemmas.Bool.Decides.{nat_tests}
 use Rattle.std.proofs.lemmas.Slice.Eq.{bytes_eq-Decides}
-use Rattle.ap_net.specs.Names.{IsNetName, IsNew, IsNotNumbered, is_name_byte, numbered, starts_with_letter, barred_words}
+use Rattle.ap_bits.specs.Names.{starts_with_letter}
+use Rattle.ap_net.specs.Names.{IsNetName, IsNew, IsNotNumbered, is_name_byte, numbered, barred_words}
 
 -- each digit may stand in a name
 digit_allowed : (d : ℕ) → d < 10 → is_name_byte (48 + d) ≡ true

@@ -106,16 +106,25 @@ numbers-apart n [] = tt
 numbers-apart n (width ∷ widths) = (All-from (λ m. n + 1 ≤ m) (λ m. m ≢ n) (λ m le e. omega arith) (map (λ (w : Wire). w.number) (wires_from (n + 1) widths)) (numbers-above (n + 1) widths), numbers-apart (n + 1) widths)
 
 -- each fresh wire is declared behind the nets
-pub wires_from-IsNet : (nets : List ModuleNet) (count : ℕ) (widths : List ℕ) → Each (IsNet (nets ++ fresh_nets count widths)) (wires_from (length nets) widths)
-wires_from-IsNet nets count [] = tt
-wires_from-IsNet nets count (width ∷ widths) =
+pub wires_from-IsNet : (nets : List ModuleNet) (count : ℕ) (widths : List ℕ) → Each (λ w. (1 ≤ w) × (w ≤ 64)) widths → Each (IsNet (nets ++ fresh_nets count widths)) (wires_from (length nets) widths)
+wires_from-IsNet nets count [] bounds = tt
+wires_from-IsNet nets count (width ∷ widths) bounds =
     let first : ModuleNet = record { name = numbered count; width = width; role = role.Plain } in
     let assoc : (nets ++ first ∷ []) ++ fresh_nets (count + 1) widths ≡ nets ++ first ∷ fresh_nets (count + 1) widths = append_assoc nets (first ∷ []) (fresh_nets (count + 1) widths) in
     let long : length (nets ++ first ∷ []) ≡ length nets + 1 = length-append nets (first ∷ []) in
-    let rest = wires_from-IsNet (nets ++ first ∷ []) (count + 1) widths in (
-      subst (λ (ns : List ModuleNet). IsNet ns (record { number = length nets; width = width })) assoc (IsNet-more (nets ++ first ∷ []) (fresh_nets (count + 1) widths) _ (IsNet-end nets first)),
+    let rest = wires_from-IsNet (nets ++ first ∷ []) (count + 1) widths bounds.1 in (
+      subst (λ (ns : List ModuleNet). IsNet ns (record { number = length nets; width = width })) assoc (IsNet-more (nets ++ first ∷ []) (fresh_nets (count + 1) widths) _ (IsNet-end nets first bounds.0.0 bounds.0.1)),
       subst (λ n. Each (IsNet (nets ++ first ∷ fresh_nets (count + 1) widths)) (wires_from n widths)) long (subst (λ (ns : List ModuleNet). Each (IsNet ns) (wires_from (length (nets ++ first ∷ [])) widths)) assoc rest),
     )
+
+-- the widths of outputs are those of ports
+pub outputs_bounded : (ports : List Port) → Each (λ (p : Port). (1 ≤ p.width) × (p.width ≤ 64)) ports → Each (λ w. (1 ≤ w) × (w ≤ 64)) (output_widths ports)
+outputs_bounded [] h = tt
+outputs_bounded (p ∷ ports) h = go (outputs_bounded ports h.1) p.output
+  where
+    go : Each (λ w. (1 ≤ w) × (w ≤ 64)) (output_widths ports) → (b : Bool) → Each (λ w. (1 ≤ w) × (w ≤ 64)) (if b then p.width ∷ output_widths ports else output_widths ports)
+    go rest true = (h.0, rest)
+    go rest false = rest
 
 -- a fresh net is a wire
 fresh_plain : (count : ℕ) (widths : List ℕ) (n : ℕ) (net : ModuleNet) → slice_get (fresh_nets count widths) n ≡ Some net → net.role ≡ role.Plain
@@ -317,8 +326,8 @@ module _ (d : Draft) (name : List ℕ) (m : ModuleText) (inputs : List Wire) (wi
   numbers : driven_among (outputs m) whole ≡ map (λ (w : Wire). w.number) outs
   numbers = driven-merged m.ports inputs outs wide (width-wires_from count widths)
 
-  pub placed-nets : Each (IsNet (d.nets ++ more)) whole
-  placed-nets = merged-all (IsNet (d.nets ++ more)) (outputs m) inputs outs (All-from (IsNet d.nets) (IsNet (d.nets ++ more)) (IsNet-more d.nets more) inputs nets) (wires_from-IsNet d.nets (wire_count d.nets) widths)
+  pub placed-nets : Each (λ (p : Port). (1 ≤ p.width) × (p.width ≤ 64)) m.ports → Each (IsNet (d.nets ++ more)) whole
+  placed-nets bounds = merged-all (IsNet (d.nets ++ more)) (outputs m) inputs outs (All-from (IsNet d.nets) (IsNet (d.nets ++ more)) (IsNet-more d.nets more) inputs nets) (wires_from-IsNet d.nets (wire_count d.nets) widths (outputs_bounded m.ports bounds))
 
   pub placed-free : Each (IsFree (d.nets ++ more)) (driven_among (outputs m) whole)
   placed-free = rw numbers (numbers-IsFree d.nets (wire_count d.nets) count widths widths (omega arith))

@@ -132,6 +132,8 @@ module _ (olds news : List ModuleNet) (place back : ℕ → ℕ) (r : IsRenumber
   IsNet-placed w h = record {
     declared = slice_get-map (λ (x : ModuleNet). x.width) news (place w.number) ∙ ap (option_map (λ (x : ModuleNet). x.width)) (r.nets w.number (number-IsNet olds w h))
         ∙ sym (slice_get-map (λ (x : ModuleNet). x.width) olds w.number) ∙ h.declared;
+    low = h.low;
+    high = h.high;
   }
 
   CellFits-placed : (w : ℕ) (c : Cell) → CellFits olds w c → CellFits news w (cell_placed place c)

@@ -293,20 +293,21 @@ module _ (modules : List ModuleText) (top : ModuleText) (each : Each IsModule mo
       (λ k i at. joins_from-all (λ j. P (join_assign j)) (base_of modules top k) i.drives i.nets (λ p w d there flag. joined k i (All-at (IsInstanceIn modules) top.instances k i within at) at p w d there flag))))
 
   own-IsNet : (w : Wire) → IsNet (nets_of top) w → IsNet nets w
-  own-IsNet w h = let net = net_of_width (nets_of top) w.number w.width h.declared in record { declared = width_at nets w.number net.0 (own_net_at modules top w.number net.0 net.1) ∙ ap Some net.2 }
+  own-IsNet w h = let net = net_of_width (nets_of top) w.number w.width h.declared in record { declared = width_at nets w.number net.0 (own_net_at modules top w.number net.0 net.1) ∙ ap Some net.2; low = h.low; high = h.high }
 
   part-IsNet : (k : ℕ) (i : Instance) (m : ModuleText) → slice_get top.instances k ≡ Some i → module_named modules i.module ≡ Some m → (w : Wire) → IsNet (nets_of m) w → IsNet nets (placed (λ n. base_of modules top k + n) w)
   part-IsNet k i m at found w h =
       let net = net_of_width (nets_of m) w.number w.width h.declared in
-      record { declared = width_at nets (base_of modules top k + w.number) (inner_net net.0) (part_net_at modules top k i m at found w.number net.0 net.1) ∙ ap Some net.2 }
+      record { declared = width_at nets (base_of modules top k + w.number) (inner_net net.0) (part_net_at modules top k i m at found w.number net.0 net.1) ∙ ap Some net.2; low = h.low; high = h.high }
+
+  connected-IsNet : (k : ℕ) (i : Instance) → slice_get top.instances k ≡ Some i → (p : ℕ) (w : Wire) → slice_get i.nets p ≡ Some w → IsNet (nets_of top) w
+  connected-IsNet k i at p w there = All-at (IsNet (nets_of top)) i.nets p w (All-at (λ (x : Instance). Each (IsNet (nets_of top)) x.nets) top.instances k i kept.connected.declared at) there
 
   port-IsNet : (k : ℕ) (i : Instance) (h : IsInstanceIn modules i) → slice_get top.instances k ≡ Some i → (p : ℕ) (w : Wire) → slice_get i.nets p ≡ Some w → IsNet nets (record { number = base_of modules top k + p; width = w.width })
   port-IsNet k i h at p w there =
       let port = port_at h.whole i h.connects p w there in
-      record { declared = width_at nets (base_of modules top k + p) (inner_net (port_net port.0)) (part_net_at modules top k i h.whole at h.found p (port_net port.0) port.1) ∙ ap Some port.2 }
-
-  connected-IsNet : (k : ℕ) (i : Instance) → slice_get top.instances k ≡ Some i → (p : ℕ) (w : Wire) → slice_get i.nets p ≡ Some w → IsNet (nets_of top) w
-  connected-IsNet k i at p w there = All-at (IsNet (nets_of top)) i.nets p w (All-at (λ (x : Instance). Each (IsNet (nets_of top)) x.nets) top.instances k i kept.connected.declared at) there
+      let net = connected-IsNet k i at p w there in
+      record { declared = width_at nets (base_of modules top k + p) (inner_net (port_net port.0)) (part_net_at modules top k i h.whole at h.found p (port_net port.0) port.1) ∙ ap Some port.2; low = net.low; high = net.high }
 
   results : Each (λ (a : Assign). IsNet nets a.to) (equations (opened_over modules top))
   results = equations-all (λ (a : Assign). IsNet nets a.to)

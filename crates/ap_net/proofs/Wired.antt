@@ -22,12 +22,12 @@ pub width_stays : (nets more : List ModuleNet) (n w : ℕ) → slice_get (widths
 width_stays nets more n w h = rw (map-append (λ (x : ModuleNet). x.width) nets more) (get_left (widths_of nets) (widths_of more) n w h)
 
 pub IsNet-more : (nets more : List ModuleNet) (w : Wire) → IsNet nets w → IsNet (nets ++ more) w
-IsNet-more nets more w h = record { declared = width_stays nets more w.number w.width h.declared }
+IsNet-more nets more w h = record { declared = width_stays nets more w.number w.width h.declared; low = h.low; high = h.high }
 
-pub IsNet-end : (nets : List ModuleNet) (net : ModuleNet) → IsNet (nets ++ net ∷ []) (record { number = length nets; width = net.width })
-IsNet-end nets net =
+pub IsNet-end : (nets : List ModuleNet) (net : ModuleNet) → 1 ≤ net.width → net.width ≤ 64 → IsNet (nets ++ net ∷ []) (record { number = length nets; width = net.width })
+IsNet-end nets net low high =
     let long : length (widths_of nets) ≡ length nets = simp length-map in
-    record { declared = rw (map-append (λ (x : ModuleNet). x.width) nets (net ∷ []), ← long) (get_end (widths_of nets) net.width) }
+    record { declared = rw (map-append (λ (x : ModuleNet). x.width) nets (net ∷ []), ← long) (get_end (widths_of nets) net.width); low = low; high = high }
 
 -- a declared net's number is below the number of nets
 pub number-IsNet : (nets : List ModuleNet) (w : Wire) → IsNet nets w → w.number < length nets

@@ -40,9 +40,17 @@ operands (cell.Slice a h l) = a ∷ []
 abbrev pub widths_of : List ModuleNet → List ℕ
 widths_of nets = map (λ n. n.width) nets
 
--- the net is declared with this width
+-- the net is declared with this width, which is from 1 to 64
 pub record IsNet (nets : List ModuleNet) (w : Wire) : Type 0 where
   pub declared : slice_get (widths_of nets) w.number ≡ Some w.width
+  pub low : 1 ≤ w.width
+  pub high : w.width ≤ 64
+
+-- both are declared, with one width
+pub record AreOfOneWidth (nets : List ModuleNet) (a b : Wire) : Type 0 where
+  pub first : IsNet nets a
+  pub second : IsNet nets b
+  pub same : b.width ≡ a.width
 
 -- a comparison gives one bit, any other operator a result as wide as its operands
 abbrev pub FitsTwo : TwoOp → ℕ → ℕ → Type 0

@@ -1,16 +1,17 @@
 -- A module that is being built, and how a piece of circuit makes it grow.
-use Rattle.std.specs.Prelude.{◌≡◌, ◌≢◌, ℕ, ◌<◌, ◌≤◌, List, [], ◌++◌, length, codes, slice_get, Some, count_by, Bool, true, false}
+use Rattle.std.specs.Prelude.{◌≡◌, ◌≢◌, ℕ, ◌<◌, ◌≤◌, List, [], ◌∷◌, ◌++◌, length, codes, slice_get, Some, count_by, Bool, true, false}
 use Rattle.std.specs.List.{AllByRecursion as Each}
 use Rattle.ap_net.specs.declared.net.Role.{Role}
 use Rattle.ap_net.specs.declared.net.Role.TheVariants as role
 use Rattle.ap_net.specs.declared.net.ModuleNet.{ModuleNet}
 use Rattle.ap_net.specs.declared.net.Assign.{Assign}
 use Rattle.ap_net.specs.declared.cell.Wire.{Wire}
+use Rattle.ap_net.specs.declared.cell.Cell.{Cell}
 use Rattle.ap_net.specs.declared.net.Next.{Next}
 use Rattle.ap_net.specs.declared.net.Instance.{Instance}
 use Rattle.ap_net.specs.Cells.{operands}
 use Rattle.ap_net.specs.Modules.{ModuleText, IsInstanceIn, ports_among}
-use Rattle.ap_net.specs.Names.{HasFresh, IsNetName, IsNew, IsNotNumbered}
+use Rattle.ap_net.specs.Names.{HasFresh, IsNetName, IsNew, IsNotNumbered, numbered}
 use Rattle.ap_net.specs.Wiring.{IsWired, IsConnected, IsSource, reset_of, Undriven, Unjoined, Settles, Ranked, names_taken}
 use Rattle.ap_net.specs.Opened.{SolveParts, IsOpenOrder, AreOrdered}
 
@@ -47,6 +48,33 @@ pub record IsDraft (d : Draft) (count : ℕ) : Type 0 where
   pub connected : IsConnected d.nets d.assigns d.instances
   pub alone : d.name ≢ codes "top" → d.instances ≡ []
   pub wires : count ≡ wire_count d.nets
+
+abbrev pub draft_of : List ℕ → List ModuleNet → List Assign → List Next → List Instance → Draft
+draft_of name nets assigns nexts instances = record { name = name; nets = nets; assigns = assigns; nexts = nexts; instances = instances }
+
+-- nothing but a name
+abbrev pub blank : List ℕ → Draft
+blank name = draft_of name [] [] [] []
+
+-- the draft with one more net, whose wire is the next one; a fresh wire is named by the number of wires before it
+abbrev pub with_net : Draft → List ℕ → ℕ → Role → Draft
+with_net d name width kind = record d { nets = d.nets ++ record { name = name; width = width; role = kind } ∷ [] }
+
+abbrev pub next_wire : Draft → ℕ → Wire
+next_wire d width = record { number = length d.nets; width = width }
+
+abbrev pub with_fresh : Draft → ℕ → Draft
+with_fresh d width = with_net d (numbered (wire_count d.nets)) width role.Plain
+
+-- with one more assign, driver of a register, or instance
+abbrev pub with_assign : Draft → Wire → Cell → Draft
+with_assign d to cell = record d { assigns = d.assigns ++ record { to = to; cell = cell } ∷ [] }
+
+abbrev pub with_next : Draft → Wire → Wire → Draft
+with_next d register from = record d { nexts = d.nexts ++ record { register = register; from = from } ∷ [] }
+
+abbrev pub with_instance : Draft → Instance → Draft
+with_instance d i = record d { instances = d.instances ++ i ∷ [] }
 
 -- ys begins with xs
 abbrev pub Begins : {X : Type 0} → List X → List X → Type 0
@@ -110,6 +138,14 @@ pub record Closes (old new : Draft) : Type 0 where
 abbrev pub CanFresh : Draft → Type 0
 CanFresh d = HasFresh (names_of d) (wire_count d.nets)
 
+-- they can be had still, where the name isn't n and a number
+abbrev pub KeepsFresh : List ℕ → Draft → Draft → Type 0
+KeepsFresh name old new = IsNotNumbered name → CanFresh old → CanFresh new
+
+-- a name that isn't n and a number is as new as it was
+abbrev pub KeepsNew : Draft → Draft → Type 0
+KeepsNew old new = (name : List ℕ) → IsNotNumbered name → IsNew name (names_of old) → IsNew name (names_of new)
+
 -- Fresh wires were made, each with its cell: they are driven, further ones can be had, a name that isn't n and a number
 -- is as new as it was, and the ports are as they were.
 pub record Makes (old new : Draft) : Type 0 where
@@ -117,12 +153,16 @@ pub record Makes (old new : Draft) : Type 0 where
   pub instances : new.instances ≡ old.instances
   pub closes : Closes old new
   pub fresh : CanFresh old → CanFresh new
-  pub names : (name : List ℕ) → IsNotNumbered name → IsNew name (names_of old) → IsNew name (names_of new)
+  pub names : KeepsNew old new
   pub ports : ports_among new.nets ≡ ports_among old.nets
 
 -- the reading fits the nets so far and meets every equation of their assigns
 abbrev pub SettlesDraft : Draft → (ℕ → ℕ) → Type 0
 SettlesDraft d read = Settles d.nets d.assigns read
+
+-- a reading that settles the new draft settles the old one, and has this meaning
+abbrev pub Means : Draft → Draft → ((ℕ → ℕ) → Type 0) → Type 0
+Means old new Meaning = (read : ℕ → ℕ) → SettlesDraft new read → SettlesDraft old read × Meaning read
 
 -- Readings of a module and its instances: they settle the draft, and part k solves instance k's module, whose ports equal the
 -- connected nets. The instances' modules are the first of their names among these.

@@ -4,11 +4,20 @@ use Rattle.std.specs.Prelude.{ℕ, List, [], ◌∷◌, codes, true, false}
 use Rattle.ap_net.specs.declared.cell.Wire.{Wire}
 use Rattle.ap_net.specs.declared.cell.Cell.TheVariants as cell
 use Rattle.ap_net.specs.declared.net.Role.TheVariants as role
+use Rattle.ap_net.specs.declared.net.ModuleNet.{ModuleNet}
 use Rattle.ap_net.specs.Modules.{ModuleText}
 use Rattle.ap_net.specs.Flat.{Flat}
 
+abbrev pub wire : ℕ → ℕ → Wire
+wire number width = record { number = number; width = width }
+
 abbrev pub net8 : ℕ → Wire
-net8 number = record { number = number; width = 8 }
+net8 number = wire number 8
+
+-- two inputs of 8 bits, and one of 1 bit
+abbrev pub three_inputs : List ModuleNet
+three_inputs = record { name = codes "a"; width = 8; role = role.Input } ∷ record { name = codes "b"; width = 8; role = role.Input }
+    ∷ record { name = codes "s"; width = 1; role = role.Input } ∷ []
 
 abbrev pub inverter : ModuleText
 inverter = record {

@@ -27,6 +27,9 @@ pub record ModuleText : Type 0 where
   pub nexts : List Next
   pub instances : List Instance
 
+abbrev pub module_of : List ℕ → List Port → List Net → List RegNet → List Assign → List Next → List Instance → ModuleText
+module_of name ports wires regs assigns nexts instances = record { name = name; ports = ports; wires = wires; regs = regs; assigns = assigns; nexts = nexts; instances = instances }
+
 abbrev pub port_net : Port → ModuleNet
 port_net p = record { name = p.name; width = p.width; role = if p.output then role.Output else role.Input }
 

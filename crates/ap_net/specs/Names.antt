@@ -1,19 +1,16 @@
 -- Names of the Verilog subset, as lists of bytes. The list of barred words is the project's own.
-use Rattle.std.specs.Prelude.{◌≢◌, ℕ, ◌<◌, ◌≤◌, ◌^◌, ◌==◌, ◌&&◌, ◌||◌, nat_le, not, IsTrue, Bool, false, List, [], ◌∷◌, length, codes}
-use Rattle.std.specs.Char.{is_ascii_alphabetic, is_ascii_alphanumeric}
+use Rattle.std.specs.Prelude.{◌≢◌, ℕ, ◌<◌, ◌≤◌, ◌^◌, ◌==◌, ◌&&◌, ◌||◌, nat_le, not, IsTrue, Bool, List, [], ◌∷◌, length, codes}
+use Rattle.std.specs.Char.{is_ascii_alphanumeric}
 use Rattle.std.specs.List.{list_all, list_any, AllByRecursion as Each}
 use Rattle.std.specs.Str.{bytes_eq}
 use Rattle.std.specs.Fmt.{decimal}
+use Rattle.ap_bits.specs.Names.{starts_with_letter}
 pub use Rattle.ap_image.specs.Shapes.{AreDistinct}
 
 -- the words that the subset itself uses
 abbrev pub barred_words : List (List ℕ)
 barred_words = codes "module" ∷ codes "endmodule" ∷ codes "input" ∷ codes "output" ∷ codes "wire" ∷ codes "reg" ∷ codes "assign"
     ∷ codes "always" ∷ codes "posedge" ∷ codes "if" ∷ codes "else" ∷ []
-
-abbrev pub starts_with_letter : List ℕ → Bool
-starts_with_letter [] = false
-starts_with_letter (b ∷ bs) = is_ascii_alphabetic b
 
 -- a letter, a digit or _
 abbrev pub is_name_byte : ℕ → Bool

@@ -28,6 +28,10 @@ abbrev pub fresh_nets : ℕ → List ℕ → List ModuleNet
 fresh_nets count [] = []
 fresh_nets count (width ∷ widths) = record { name = numbered count; width = width; role = role.Plain } ∷ fresh_nets (count + 1) widths
 
+-- the draft with a fresh wire for each output among ports
+abbrev pub with_outputs : Draft → List Port → Draft
+with_outputs d ports = record d { nets = d.nets ++ fresh_nets (wire_count d.nets) (output_widths ports) }
+
 -- one net for each port: the next output where the port is one, else the next input
 abbrev pub merged : List Bool → List Wire → List Wire → List Wire
 merged [] inputs outs = []
@@ -43,6 +47,10 @@ output_wires n m = wires_from n (output_widths m.ports)
 -- the instance of a module over these inputs
 abbrev pub placed_instance : ℕ → List ℕ → ModuleText → List Wire → Instance
 placed_instance n name m inputs = instance_of name m (merged (outputs m) inputs (output_wires n m))
+
+-- the instance in a draft
+abbrev pub instance_in : Draft → List ℕ → ModuleText → List Wire → Instance
+instance_in d name m inputs = placed_instance (length d.nets) name m inputs
 
 -- the draft with it
 abbrev pub with_placed : Draft → List ℕ → ModuleText → List Wire → Draft

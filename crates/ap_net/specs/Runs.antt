@@ -1,5 +1,5 @@
 -- Runs of a netlist in its environment: memories that answer in the same cycle and take a write at the edge.
-use Rattle.std.specs.Prelude.{◌≡◌, ℕ, zero, suc, ◌+◌, ◌<◌, ◌==◌, List, [], ◌∷◌, map, codes, slice_index, Bool, if◌then◌else◌}
+use Rattle.std.specs.Prelude.{◌≡◌, ℕ, ◌+◌, ◌<◌, ◌==◌, List, [], ◌∷◌, map, codes, slice_index, Bool, if◌then◌else◌}
 use Rattle.ap_net.specs.declared.net.FlatNet.{FlatNet}
 use Rattle.ap_net.specs.Flat.{Flat, Solves, value_named, reset_in}
 use Rattle.ap_image.specs.declared.shape.MemShape.{MemShape}
@@ -7,6 +7,7 @@ use Rattle.ap_image.specs.declared.image.Image.{Image}
 use Rattle.ap_image.specs.declared.trace.TraceLine.{TraceLine}
 use Rattle.ap_image.specs.declared.trace.Trace.{Trace}
 use Rattle.ap_image.specs.FitsShape.{line_at}
+use Rattle.ap_image.specs.Words.{with_word}
 use Rattle.ap_net.specs.Outside.{Outside, InPort, shape_of, input_name, mem_name}
 
 -- what a netlist holds between two cycles: a number for each register, in the order of their drivers, and the memories
@@ -32,13 +33,6 @@ abbrev pub MemsAnswer : List FlatNet → List ℕ → List MemShape → List (Li
 MemsAnswer nets v [] mems = Unit {0}
 MemsAnswer nets v (m ∷ ms) [] = ⊥
 MemsAnswer nets v (m ∷ ms) (words ∷ mems) = (value_named nets v (mem_name m (codes "rd")) ≡ slice_index words (value_named nets v (mem_name m (codes "ra")))) × MemsAnswer nets v ms mems
-
--- the words with one of them written: those that lie before it and aren't given are 0
-abbrev pub with_word : List ℕ → ℕ → ℕ → List ℕ
-with_word [] zero value = value ∷ []
-with_word [] (suc address) value = 0 ∷ with_word [] address value
-with_word (word ∷ words) zero value = value ∷ words
-with_word (word ∷ words) (suc address) value = word ∷ with_word words address value
 
 -- at the edge a memory takes the word that is written, where its enable is 1
 abbrev pub mem_after : List FlatNet → List ℕ → MemShape → List ℕ → List ℕ

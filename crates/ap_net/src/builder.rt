@@ -6,9 +6,9 @@ ghost use Rattle.ap_net.specs.Wiring.{IsFree, reset_of, NextFits, IsDriven, Undr
 ghost use Rattle.ap_net.specs.declared.net.Port.{Port};
 ghost use Rattle.ap_net.specs.Modules.{ModuleText, ports_among, outputs, instance_of, module_named, Connects};
 ghost use Rattle.ap_net.specs.Opened.{SolvesPart};
-ghost use Rattle.ap_net.specs.Placing.{Places, output_widths, input_widths, wires_from, fresh_nets, merged, output_wires, placed_instance, with_placed};
+ghost use Rattle.ap_net.specs.Placing.{Places, output_widths, input_widths, wires_from, merged, output_wires, instance_in, with_outputs, with_placed};
 ghost use Rattle.ap_net.specs.Finished.{IsFinished};
-ghost use Rattle.ap_net.specs.Draft.{Draft, Adds, Closes, Makes, CanFresh, SettlesDraft, SettlesOpen, names_of, is_plain, wire_count};
+ghost use Rattle.ap_net.specs.Draft.{Adds, Closes, Makes, CanFresh, KeepsFresh, KeepsNew, Means, SettlesOpen, blank, with_net, with_fresh, with_assign, with_next, with_instance, next_wire, names_of, is_plain, wire_count};
 
 use crate::NoMemory;
 use crate::cell::{Cell, Wire};
@@ -47,7 +47,7 @@ impl Builder {
     /// A module of this name, with `clk` and `rst` and nothing else.
     pub fn new(alloc: Global, name: &[u8]) -> Result<Builder, NoMemory>
         requires { IsNetName name.now }
-        ensures { IfOk result (λ made. made ≡ record { name = name.now; nets = []; assigns = []; nexts = []; instances = [] }) }
+        ensures { IfOk result (λ made. made ≡ blank name.now) }
     {
         let name = NetName::new(alloc, name)?;
         Ok(Builder {
@@ -98,7 +98,10 @@ fn connected(
 ) -> Result<Vec<Wire>, NoMemory>
     requires inputs { length inputs.now ≡ length (input_widths ports.now) }
     requires outputs { length outputs.now ≡ length (output_widths ports.now) }
-    ensures { IfOk result (λ nets. nets.items ≡ merged (map (λ p. p.output) ports.now) inputs.now outputs.now) }
+    ensures {
+        IfOk result (λ nets.
+            nets.items ≡ merged (map (λ p. p.output) ports.now) inputs.now outputs.now)
+    }
 {
     let mut nets = Vec::new(alloc);
     let mut used = 0;
@@ -133,11 +136,14 @@ impl Builder {
         requires low { 1 ≤ width }
         requires high { width ≤ 64 }
         requires reset { reset_of role < 2 ^ width }
-        ensures ok { OnOk result (self.new ≡ record self.old { nets = self.old.nets ++ record { name = name; width = width; role = role } ∷ [] }) }
-        ensures wire { IfOk result (λ w. w ≡ record { number = length self.old.nets; width = width }) }
+        ensures ok { OnOk result (self.new ≡ with_net self.old name width role) }
+        ensures wire { IfOk result (λ w. w ≡ next_wire self.old width) }
         ensures adds { OnOk result (Adds self.old self.new) }
-        ensures named { OnOk result (IsNotNumbered name → CanFresh self.old → CanFresh self.new) }
-        ensures numbered { OnOk result (name ≡ numbered (wire_count self.old.nets) → role ≡ Role.Plain → CanFresh self.old → CanFresh self.new) }
+        ensures named { OnOk result (KeepsFresh name self.old self.new) }
+        ensures numbered {
+            OnOk result (name ≡ numbered (wire_count self.old.nets) → role ≡ Role.Plain
+                → CanFresh self.old → CanFresh self.new)
+        }
         ensures err { OnErr result (self.new ≡ self.old) }
     {
         let wires = self.wires + wires_in(role);
@@ -154,10 +160,10 @@ impl Builder {
         requires low { 1 ≤ width }
         requires high { width ≤ 64 }
         requires reset { reset_of role < 2 ^ width }
-        ensures ok { OnOk result (self.new ≡ record self.old { nets = self.old.nets ++ record { name = name.now; width = width; role = role } ∷ [] }) }
-        ensures wire { IfOk result (λ w. w ≡ record { number = length self.old.nets; width = width }) }
+        ensures ok { OnOk result (self.new ≡ with_net self.old name.now width role) }
+        ensures wire { IfOk result (λ w. w ≡ next_wire self.old width) }
         ensures adds { OnOk result (Adds self.old self.new) }
-        ensures fresh { OnOk result (IsNotNumbered name.now → CanFresh self.old → CanFresh self.new) }
+        ensures fresh { OnOk result (KeepsFresh name.now self.old self.new) }
         ensures err { OnErr result (self.new ≡ self.old) }
     {
         let name = NetName::new(self.alloc, name)?;
@@ -169,8 +175,8 @@ impl Builder {
         requires name { IsNew (numbered (wire_count self.old.nets)) (names_of self.old) }
         requires low { 1 ≤ width }
         requires high { width ≤ 64 }
-        ensures ok { OnOk result (self.new ≡ record self.old { nets = self.old.nets ++ record { name = numbered (wire_count self.old.nets); width = width; role = Role.Plain } ∷ [] }) }
-        ensures wire { IfOk result (λ w. w ≡ record { number = length self.old.nets; width = width }) }
+        ensures ok { OnOk result (self.new ≡ with_fresh self.old width) }
+        ensures wire { IfOk result (λ w. w ≡ next_wire self.old width) }
         ensures adds { OnOk result (Adds self.old self.new) }
         ensures fresh { OnOk result (CanFresh self.old → CanFresh self.new) }
         ensures err { OnErr result (self.new ≡ self.old) }
@@ -185,10 +191,10 @@ impl Builder {
         requires name { IsNew name.now (names_of self.old) }
         requires low { 1 ≤ width }
         requires high { width ≤ 64 }
-        ensures ok { OnOk result (self.new ≡ record self.old { nets = self.old.nets ++ record { name = name.now; width = width; role = Role.Input } ∷ [] }) }
-        ensures wire { IfOk result (λ w. w ≡ record { number = length self.old.nets; width = width }) }
+        ensures ok { OnOk result (self.new ≡ with_net self.old name.now width Role.Input) }
+        ensures wire { IfOk result (λ w. w ≡ next_wire self.old width) }
         ensures adds { OnOk result (Adds self.old self.new) }
-        ensures fresh { OnOk result (IsNotNumbered name.now → CanFresh self.old → CanFresh self.new) }
+        ensures fresh { OnOk result (KeepsFresh name.now self.old self.new) }
         ensures err { OnErr result (self.new ≡ self.old) }
     {
         self.named(name, width, Role::Input)
@@ -200,10 +206,10 @@ impl Builder {
         requires name { IsNew name.now (names_of self.old) }
         requires low { 1 ≤ width }
         requires high { width ≤ 64 }
-        ensures ok { OnOk result (self.new ≡ record self.old { nets = self.old.nets ++ record { name = name.now; width = width; role = Role.Output } ∷ [] }) }
-        ensures wire { IfOk result (λ w. w ≡ record { number = length self.old.nets; width = width }) }
+        ensures ok { OnOk result (self.new ≡ with_net self.old name.now width Role.Output) }
+        ensures wire { IfOk result (λ w. w ≡ next_wire self.old width) }
         ensures adds { OnOk result (Adds self.old self.new) }
-        ensures fresh { OnOk result (IsNotNumbered name.now → CanFresh self.old → CanFresh self.new) }
+        ensures fresh { OnOk result (KeepsFresh name.now self.old self.new) }
         ensures err { OnErr result (self.new ≡ self.old) }
     {
         self.named(name, width, Role::Output)
@@ -215,10 +221,10 @@ impl Builder {
         requires name { IsNew name.now (names_of self.old) }
         requires low { 1 ≤ width }
         requires high { width ≤ 64 }
-        ensures ok { OnOk result (self.new ≡ record self.old { nets = self.old.nets ++ record { name = name.now; width = width; role = Role.Plain } ∷ [] }) }
-        ensures wire { IfOk result (λ w. w ≡ record { number = length self.old.nets; width = width }) }
+        ensures ok { OnOk result (self.new ≡ with_net self.old name.now width Role.Plain) }
+        ensures wire { IfOk result (λ w. w ≡ next_wire self.old width) }
         ensures adds { OnOk result (Adds self.old self.new) }
-        ensures fresh { OnOk result (IsNotNumbered name.now → CanFresh self.old → CanFresh self.new) }
+        ensures fresh { OnOk result (KeepsFresh name.now self.old self.new) }
         ensures err { OnErr result (self.new ≡ self.old) }
     {
         self.named(name, width, Role::Plain)
@@ -231,10 +237,12 @@ impl Builder {
         requires low { 1 ≤ width }
         requires high { width ≤ 64 }
         requires reset { reset < 2 ^ width }
-        ensures ok { OnOk result (self.new ≡ record self.old { nets = self.old.nets ++ record { name = name.now; width = width; role = Role.Register reset } ∷ [] }) }
-        ensures wire { IfOk result (λ w. w ≡ record { number = length self.old.nets; width = width }) }
+        ensures ok {
+            OnOk result (self.new ≡ with_net self.old name.now width (Role.Register reset))
+        }
+        ensures wire { IfOk result (λ w. w ≡ next_wire self.old width) }
         ensures adds { OnOk result (Adds self.old self.new) }
-        ensures fresh { OnOk result (IsNotNumbered name.now → CanFresh self.old → CanFresh self.new) }
+        ensures fresh { OnOk result (KeepsFresh name.now self.old self.new) }
         ensures err { OnErr result (self.new ≡ self.old) }
     {
         self.named(name, width, Role::Register(reset))
@@ -247,7 +255,7 @@ impl Builder {
         requires free { IsFree self.old.nets to.number }
         requires undriven { Undriven self.old.assigns to.number }
         requires unjoined { Unjoined self.old.instances to.number }
-        ensures ok { OnOk result (self.new ≡ record self.old { assigns = self.old.assigns ++ record { to = to; cell = cell } ∷ [] }) }
+        ensures ok { OnOk result (self.new ≡ with_assign self.old to cell) }
         ensures err { OnErr result (self.new ≡ self.old) }
     {
         self.assigns.push(Assign { to, cell })?;
@@ -258,7 +266,7 @@ impl Builder {
     pub fn next(&mut self, register: Wire, from: Wire) -> Result<(), NoMemory>
         requires fits { NextFits self.old.nets (record { register = register; from = from }) }
         requires unclocked { Unclocked self.old.nexts register.number }
-        ensures ok { OnOk result (self.new ≡ record self.old { nexts = self.old.nexts ++ record { register = register; from = from } ∷ [] }) }
+        ensures ok { OnOk result (self.new ≡ with_next self.old register from) }
         ensures err { OnErr result (self.new ≡ self.old) }
     {
         self.nexts.push(Next { register, from })?;
@@ -274,10 +282,17 @@ impl Builder {
         requires widths { map (λ w. w.width) nets.now ≡ map (λ p. p.width) whole.now.ports }
         requires nets { Each (IsNet self.old.nets) nets.now }
         requires free { Each (IsFree self.old.nets) (driven_among (outputs whole.now) nets.now) }
-        requires undriven { Each (Undriven self.old.assigns) (driven_among (outputs whole.now) nets.now) }
-        requires unjoined { Each (Unjoined self.old.instances) (driven_among (outputs whole.now) nets.now) }
+        requires undriven {
+            Each (Undriven self.old.assigns) (driven_among (outputs whole.now) nets.now)
+        }
+        requires unjoined {
+            Each (Unjoined self.old.instances) (driven_among (outputs whole.now) nets.now)
+        }
         requires apart { NoneTwice (driven_among (outputs whole.now) nets.now) }
-        ensures ok { OnOk result (self.new ≡ record self.old { instances = self.old.instances ++ instance_of name.now whole.now nets.now ∷ [] }) }
+        ensures ok {
+            OnOk result (self.new ≡ with_instance self.old
+                (instance_of name.now whole.now nets.now))
+        }
         ensures err { OnErr result (self.new ≡ self.old) }
     {
         let name = NetName::new(self.alloc, name)?;
@@ -298,10 +313,10 @@ impl Builder {
         requires fresh { CanFresh self.old }
         requires low { 1 ≤ width }
         requires high { width ≤ 64 }
-        ensures ok { OnOk result (self.new ≡ record self.old { nets = self.old.nets ++ record { name = numbered (wire_count self.old.nets); width = width; role = Role.Plain } ∷ [] }) }
-        ensures wire { IfOk result (λ w. w ≡ record { number = length self.old.nets; width = width }) }
+        ensures ok { OnOk result (self.new ≡ with_fresh self.old width) }
+        ensures wire { IfOk result (λ w. w ≡ next_wire self.old width) }
         ensures fresh { OnOk result (CanFresh self.new) }
-        ensures names { OnOk result ((other : List ℕ) → IsNotNumbered other → IsNew other (names_of self.old) → IsNew other (names_of self.new)) }
+        ensures names { OnOk result (KeepsNew self.old self.new) }
     {
         let _ = &self.nets;
         let wire = self.fresh(width)?;
@@ -312,10 +327,12 @@ impl Builder {
     fn fresh_outputs(&mut self, ports: &[Port]) -> Result<Items<Wire>, NoMemory>
         requires fresh { CanFresh self.old }
         requires widths { Each (λ (p : Port). (1 ≤ p.width) × (p.width ≤ 64)) ports.now }
-        ensures ok { OnOk result (self.new ≡ record self.old { nets = self.old.nets ++ fresh_nets (wire_count self.old.nets) (output_widths ports.now) }) }
-        ensures outputs { IfOk result (λ outs. outs ≡ wires_from (length self.old.nets) (output_widths ports.now)) }
+        ensures ok { OnOk result (self.new ≡ with_outputs self.old ports.now) }
+        ensures outputs {
+            IfOk result (λ outs. outs ≡ wires_from (length self.old.nets) (output_widths ports.now))
+        }
         ensures fresh { OnOk result (CanFresh self.new) }
-        ensures names { OnOk result ((other : List ℕ) → IsNotNumbered other → IsNew other (names_of self.old) → IsNew other (names_of self.new)) }
+        ensures names { OnOk result (KeepsNew self.old self.new) }
     {
         let mut outputs = Items::new(self.alloc);
         for port in ports {
@@ -345,12 +362,24 @@ impl Builder {
         requires widths { map (λ w. w.width) inputs.now ≡ input_widths whole.now.ports }
         requires nets { Each (IsNet self.old.nets) inputs.now }
         ensures ok { OnOk result (self.new ≡ with_placed self.old name.now whole.now inputs.now) }
-        ensures outputs { IfOk result (λ outs. outs ≡ output_wires (length self.old.nets) whole.now) }
+        ensures outputs {
+            IfOk result (λ outs. outs ≡ output_wires (length self.old.nets) whole.now)
+        }
         ensures nets { IfOk result (λ outs. Each (IsNet self.new.nets) outs) }
-        ensures value { OnOk result ((modules : List ModuleText) (read : ℕ → ℕ) (parts : ℕ → ℕ → ℕ) → SettlesOpen modules self.new read parts → SettlesOpen modules self.old read parts
-            × (module_named modules whole.now.name ≡ Some whole.now → SolvesPart whole.now (placed_instance (length self.old.nets) name.now whole.now inputs.now) read (parts (length self.old.instances)))) }
-        ensures places { OnOk result (Places (placed_instance (length self.old.nets) name.now whole.now inputs.now ∷ []) self.old self.new) }
-        ensures connects { OnOk result (Connects whole.now (placed_instance (length self.old.nets) name.now whole.now inputs.now)) }
+        ensures value {
+            OnOk result ((modules : List ModuleText) (read : ℕ → ℕ) (parts : ℕ → ℕ → ℕ)
+                → SettlesOpen modules self.new read parts → SettlesOpen modules self.old read parts
+                × (module_named modules whole.now.name ≡ Some whole.now
+                    → SolvesPart whole.now (instance_in self.old name.now whole.now inputs.now) read
+                        (parts (length self.old.instances))))
+        }
+        ensures places {
+            OnOk result (Places (instance_in self.old name.now whole.now inputs.now ∷ [])
+                self.old self.new)
+        }
+        ensures connects {
+            OnOk result (Connects whole.now (instance_in self.old name.now whole.now inputs.now))
+        }
     {
         whole.rules();
         let alloc = self.alloc;
@@ -367,7 +396,10 @@ impl Builder {
         requires high { width ≤ 64 }
         requires fits { CellFits self.old.nets width cell }
         ensures net { IfOk result (λ w. IsNet self.new.nets w × (w.width ≡ width)) }
-        ensures value { IfOk result (λ w. (read : ℕ → ℕ) → SettlesDraft self.new read → SettlesDraft self.old read × (read w.number ≡ cell_value read width cell)) }
+        ensures value {
+            IfOk result (λ w. Means self.old self.new (λ read.
+                read w.number ≡ cell_value read width cell))
+        }
         ensures makes { OnOk result (Makes self.old self.new) }
     {
         let _ = &self.nets;
@@ -384,13 +416,21 @@ impl Builder {
         requires high { width ≤ 64 }
         requires fits { CellFits self.old.nets width cell }
         ensures net { IfOk result (λ w. IsNet self.new.nets w × (w.width ≡ width)) }
-        ensures there { IfOk result (λ w. slice_get self.new.nets w.number ≡ Some (record { name = name.now; width = width; role = Role.Output })) }
-        ensures nets { OnOk result (self.new.nets ≡ self.old.nets ++ record { name = name.now; width = width; role = Role.Output } ∷ []) }
-        ensures value { IfOk result (λ w. (read : ℕ → ℕ) → SettlesDraft self.new read → SettlesDraft self.old read × (read w.number ≡ cell_value read width cell)) }
+        ensures there {
+            IfOk result (λ w. slice_get self.new.nets w.number
+                ≡ Some (record { name = name.now; width = width; role = Role.Output }))
+        }
+        ensures nets {
+            OnOk result (self.new.nets ≡ (with_net self.old name.now width Role.Output).nets)
+        }
+        ensures value {
+            IfOk result (λ w. Means self.old self.new (λ read.
+                read w.number ≡ cell_value read width cell))
+        }
         ensures adds { OnOk result (Adds self.old self.new) }
         ensures closes { OnOk result (Closes self.old self.new) }
         ensures instances { OnOk result (self.new.instances ≡ self.old.instances) }
-        ensures fresh { OnOk result (IsNotNumbered name.now → CanFresh self.old → CanFresh self.new) }
+        ensures fresh { OnOk result (KeepsFresh name.now self.old self.new) }
     {
         let _ = &self.nets;
         let to = self.output(name, width)?;

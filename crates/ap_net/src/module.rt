@@ -1,5 +1,5 @@
 ghost use Rattle.std.specs.Prelude.{◌≡◌, ◌<◌, ◌∷◌, [], length, codes, IfOk};
-ghost use Rattle.ap_net.specs.Modules.{IsNetlist, nets_of, nets_among, name_at, reset_at, IsModule};
+ghost use Rattle.ap_net.specs.Modules.{IsNetlist, IsModule, module_of, nets_of, nets_among, name_at, reset_at};
 
 use crate::NoMemory;
 use crate::name::NetName;
@@ -73,8 +73,14 @@ impl Module {
         nexts: Vec<Next>,
         instances: Vec<Instance>,
     ) -> Module
-        requires { IsModule (record { name = name; ports = ports.items; wires = wires.items; regs = regs.items; assigns = assigns.items; nexts = nexts.items; instances = instances.items }) }
-        ensures { result ≡ record { name = name; ports = ports.items; wires = wires.items; regs = regs.items; assigns = assigns.items; nexts = nexts.items; instances = instances.items } }
+        requires {
+            IsModule (module_of name ports.items wires.items regs.items assigns.items nexts.items
+                instances.items)
+        }
+        ensures {
+            result ≡ module_of name ports.items wires.items regs.items assigns.items nexts.items
+                instances.items
+        }
     {
         Module {
             name,

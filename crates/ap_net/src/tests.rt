@@ -1,6 +1,6 @@
 ghost use Rattle.std.specs.Prelude.{◌≡◌, ◌∷◌, ◌≤◌, [], codes, slice_index};
 ghost use Rattle.ap_net.specs.Cells.{CellFits, two_value, cell_value};
-ghost use Rattle.ap_net.specs.Examples.{inverter, over_inverter, inverter_opened, inverter_text};
+ghost use Rattle.ap_net.specs.Examples.{wire, three_inputs, inverter, over_inverter, inverter_opened, inverter_text};
 ghost use Rattle.ap_net.specs.Flat.{opened, value_in_part, register_in, reset_in};
 ghost use Rattle.ap_net.specs.Text.{netlist_text};
 
@@ -116,7 +116,7 @@ fn nets_stand_by_kind(rt: HostRuntime) -> Result<(), Fail> {
 fn shown(alloc: Global, width: u32, cell: Cell) -> Result<Vec<u8>, NoMemory>
     requires low { 1 ≤ width }
     requires high { width ≤ 64 }
-    requires fits { CellFits (record { name = codes "a"; width = 8; role = Role.Input } ∷ record { name = codes "b"; width = 8; role = Role.Input } ∷ record { name = codes "s"; width = 1; role = Role.Input } ∷ []) width cell }
+    requires fits { CellFits three_inputs width cell }
 {
     let mut module = Builder::new(alloc, b"top")?;
     let _a = module.input(b"a", 8)?;
@@ -137,7 +137,7 @@ fn expect_right(
 ) -> Result<(), Fail>
     requires low { 1 ≤ width }
     requires high { width ≤ 64 }
-    requires fits { CellFits (record { name = codes "a"; width = 8; role = Role.Input } ∷ record { name = codes "b"; width = 8; role = Role.Input } ∷ record { name = codes "s"; width = 1; role = Role.Input } ∷ []) width cell }
+    requires fits { CellFits three_inputs width cell }
 {
     let text = shown(alloc, width, cell)?;
     let high = width - 1;
@@ -194,7 +194,9 @@ fn writes_each_cell(rt: HostRuntime) -> Result<(), Fail> {
 /// A netlist with an instance, opened: the instance's nets follow those of `top`, and its ports are joined to their nets.
 fn opens_an_instance()
     ensures opened { opened (inverter ∷ over_inverter ∷ []) ≡ inverter_opened }
-    ensures input { value_in_part 1 inverter_opened.nets (5 ∷ 250 ∷ 250 ∷ 5 ∷ 250 ∷ 2 ∷ []) (codes "a") ≡ 5 }
+    ensures input {
+        value_in_part 1 inverter_opened.nets (5 ∷ 250 ∷ 250 ∷ 5 ∷ 250 ∷ 2 ∷ []) (codes "a") ≡ 5
+    }
     ensures register { register_in 1 inverter_opened (2 ∷ []) (codes "q") ≡ 2 }
     ensures reset { reset_in inverter_opened 5 ≡ 2 }
 {}
@@ -213,7 +215,7 @@ fn values_of_one_bit()
     ensures xor { two_value TwoOp.Xor 1 1 1 ≡ 0 }
     ensures eq { two_value TwoOp.Eq 1 1 1 ≡ 1 }
     ensures ltu { two_value TwoOp.Ltu 1 0 1 ≡ 1 }
-    ensures not { cell_value (slice_index (0 ∷ [])) 1 (Cell.Not (record { number = 0; width = 1 })) ≡ 1 }
+    ensures not { cell_value (slice_index (0 ∷ [])) 1 (Cell.Not (wire 0 1)) ≡ 1 }
 {}
 
 /// Worked values at eight bits: sums wrap, 181 is 10110101 in binary.
@@ -226,23 +228,45 @@ fn values_of_eight_bits()
     ensures eq { two_value TwoOp.Eq 1 3 5 ≡ 0 }
     ensures less { two_value TwoOp.Ltu 1 3 5 ≡ 1 }
     ensures same { two_value TwoOp.Ltu 1 5 5 ≡ 0 }
-    ensures not { cell_value (slice_index (15 ∷ [])) 8 (Cell.Not (record { number = 0; width = 8 })) ≡ 240 }
-    ensures first { cell_value (slice_index (1 ∷ 3 ∷ 5 ∷ [])) 8 (Cell.Choose (record { number = 0; width = 1 }) (record { number = 1; width = 8 }) (record { number = 2; width = 8 })) ≡ 3 }
-    ensures second { cell_value (slice_index (0 ∷ 3 ∷ 5 ∷ [])) 8 (Cell.Choose (record { number = 0; width = 1 }) (record { number = 1; width = 8 }) (record { number = 2; width = 8 })) ≡ 5 }
-    ensures cat { cell_value (slice_index (3 ∷ 5 ∷ [])) 16 (Cell.Cat (record { number = 0; width = 8 }) (record { number = 1; width = 8 })) ≡ 773 }
-    ensures slice { cell_value (slice_index (181 ∷ [])) 5 (Cell.Slice (record { number = 0; width = 8 }) 6 2) ≡ 13 }
-    ensures top_bit { cell_value (slice_index (181 ∷ [])) 1 (Cell.Slice (record { number = 0; width = 8 }) 7 7) ≡ 1 }
+    ensures not { cell_value (slice_index (15 ∷ [])) 8 (Cell.Not (wire 0 8)) ≡ 240 }
+    ensures first {
+        cell_value (slice_index (1 ∷ 3 ∷ 5 ∷ [])) 8 (Cell.Choose (wire 0 1)
+            (wire 1 8) (wire 2 8)) ≡ 3
+    }
+    ensures second {
+        cell_value (slice_index (0 ∷ 3 ∷ 5 ∷ [])) 8 (Cell.Choose (wire 0 1)
+            (wire 1 8) (wire 2 8)) ≡ 5
+    }
+    ensures cat { cell_value (slice_index (3 ∷ 5 ∷ [])) 16 (Cell.Cat (wire 0 8) (wire 1 8)) ≡ 773 }
+    ensures slice { cell_value (slice_index (181 ∷ [])) 5 (Cell.Slice (wire 0 8) 6 2) ≡ 13 }
+    ensures top_bit { cell_value (slice_index (181 ∷ [])) 1 (Cell.Slice (wire 0 8) 7 7) ≡ 1 }
 {}
 
 /// Worked values at 64 bits, the greatest width.
 fn values_of_sixty_four_bits()
     ensures add { two_value TwoOp.Add 64 18446744073709551615 1 ≡ 0 }
     ensures sub { two_value TwoOp.Sub 64 0 1 ≡ 18446744073709551615 }
-    ensures and { two_value TwoOp.And 64 18446744073709551615 1311768467463790320 ≡ 1311768467463790320 }
-    ensures xor { two_value TwoOp.Xor 64 18446744073709551615 1311768467463790320 ≡ 17134975606245761295 }
+    ensures and {
+        two_value TwoOp.And 64 18446744073709551615 1311768467463790320 ≡ 1311768467463790320
+    }
+    ensures xor {
+        two_value TwoOp.Xor 64 18446744073709551615 1311768467463790320 ≡ 17134975606245761295
+    }
     ensures ltu { two_value TwoOp.Ltu 1 9223372036854775808 9223372036854775807 ≡ 0 }
-    ensures not { cell_value (slice_index (0 ∷ [])) 64 (Cell.Not (record { number = 0; width = 64 })) ≡ 18446744073709551615 }
-    ensures cat { cell_value (slice_index (4294967295 ∷ 1 ∷ [])) 64 (Cell.Cat (record { number = 0; width = 32 }) (record { number = 1; width = 32 })) ≡ 18446744069414584321 }
-    ensures top_bit { cell_value (slice_index (9223372036854775808 ∷ [])) 1 (Cell.Slice (record { number = 0; width = 64 }) 63 63) ≡ 1 }
-    ensures whole { cell_value (slice_index (18446744073709551615 ∷ [])) 64 (Cell.Slice (record { number = 0; width = 64 }) 63 0) ≡ 18446744073709551615 }
+    ensures not {
+        cell_value (slice_index (0 ∷ [])) 64 (Cell.Not (wire 0 64))
+            ≡ 18446744073709551615
+    }
+    ensures cat {
+        cell_value (slice_index (4294967295 ∷ 1 ∷ [])) 64 (Cell.Cat (wire 0 32) (wire 1 32))
+            ≡ 18446744069414584321
+    }
+    ensures top_bit {
+        cell_value (slice_index (9223372036854775808 ∷ [])) 1 (Cell.Slice
+            (wire 0 64) 63 63) ≡ 1
+    }
+    ensures whole {
+        cell_value (slice_index (18446744073709551615 ∷ [])) 64 (Cell.Slice
+            (wire 0 64) 63 0) ≡ 18446744073709551615
+    }
 {}

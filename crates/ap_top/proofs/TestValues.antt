@@ -1,7 +1,7 @@
 -- The values of the operations of the tests' kinds.
 use Rattle.std.proofs.Common.{◌≡◌, ℕ, zero, suc, ◌+◌, ◌-◌, ◌%◌, ◌^◌, ◌<◌, refl, sym, arith}
 use Rattle.ap_bits.proofs.TermValues.{term_values}
-use Rattle.ap_unit.specs.Cards.{operation_value}
+use Rattle.ap_bits.specs.Cards.{operation_value}
 use Rattle.ap_top.specs.TestCards.{less_and_sum_card, less_card, even_sum_card, sum_or_less_value}
 
 pub subtracted : (w n a b : ℕ) → n < 1 → (a + 2 ^ w - b) % 2 ^ w ≡ operation_value less_card w n a b

@@ -2,8 +2,7 @@
 use Rattle.std.specs.Prelude.{◌≡◌, ℕ, ◌<◌, List, codes, length, slice_get, Some}
 use Rattle.ap_bits.specs.declared.card.Card.{Card}
 use Rattle.ap_bits.specs.declared.card.Latency.TheVariants.{One}
-use Rattle.ap_bits.specs.Cards.{FitsWidth}
-use Rattle.ap_unit.specs.Cards.{operation_names, operation_value}
+use Rattle.ap_bits.specs.Cards.{FitsWidth, operation_names, operation_value}
 use Rattle.ap_unit.specs.Kinds.{place_of}
 
 -- an operation of a kind of unit: the kind's card, and the operation's number

@@ -1,5 +1,5 @@
 ghost use Rattle.std.specs.Prelude.{◌≡◌, ℕ, IfNone, IfSome, IsSomeAnd, Some, slice_get};
-ghost use Rattle.ap_unit.specs.Cards.{operation_names};
+ghost use Rattle.ap_bits.specs.Cards.{operation_names};
 ghost use Rattle.ap_unit.specs.Shelves.{cards_of};
 ghost use Rattle.ap_top.specs.Additions.{IsAddition, Operation};
 

@@ -10,13 +10,13 @@ use Rattle.ap_bits.specs.declared.card.Card.{Card}
 use Rattle.ap_bits.specs.Names.{is_name, IsName}
 use Rattle.ap_net.specs.Names.{AreDistinct}
 use Rattle.ap_bits.specs.declared.card.Latency.TheVariants.{One}
-use Rattle.ap_bits.specs.Cards.{select_width}
+use Rattle.ap_bits.specs.Cards.{select_width, operation_names}
 use Rattle.ap_net.specs.declared.cell.Wire.{Wire}
 use Rattle.ap_net.specs.Draft.{Draft}
 use Rattle.ap_unit.specs.declared.pieces.Inputs.{Inputs}
 use Rattle.ap_unit.specs.Built.{IsUnitDraft}
 use Rattle.ap_unit.specs.Pieces.{input_wires, HasValue}
-use Rattle.ap_unit.specs.Cards.{operation_names, IsKindCard}
+use Rattle.ap_unit.specs.Cards.{IsKindCard}
 
 -- whether no name stands twice
 abbrev pub are_distinct : List (List ℕ) → Bool

@@ -1,18 +1,12 @@
 -- From a draft to the module that is made of it.
-use Rattle.std.proofs.Common.{◌≡◌, ◌≢◌, ℕ, ◌<◌, suc, zero, List, [], ◌∷◌, map, length, Some, refl, sym, ap, ◌∙◌}
-use Rattle.std.specs.Prelude.{slice_get, option_map}
+use Rattle.std.proofs.Common.{◌≡◌, ◌≢◌, ℕ, suc, zero, List, [], ◌∷◌, map, Some, refl, sym, ap, ◌∙◌}
+use Rattle.std.specs.Prelude.{slice_get}
 use Rattle.std.specs.List.{AllByRecursion as Each}
-use Rattle.std.proofs.lemmas.List.{length-map}
-use Rattle.std.proofs.lemmas.Option.{slice_get_within, slice_get-map}
-use Rattle.ap_net.specs.declared.cell.Cell.{Cell}
-use Rattle.ap_net.specs.declared.cell.Cell.TheVariants as cell
+use Rattle.std.proofs.lemmas.Option.{slice_get_within}
 use Rattle.ap_net.specs.declared.net.ModuleNet.{ModuleNet}
-use Rattle.ap_net.specs.declared.net.Assign.{Assign}
 use Rattle.ap_net.specs.Names.{AreDistinct}
-use Rattle.ap_net.specs.Cells.{cell_value, widths_of}
-use Rattle.ap_net.specs.Wiring.{Settles, Holds}
-use Rattle.ap_net.specs.Draft.{Draft, SettlesDraft}
-use Rattle.ap_net.specs.Modules.{ModuleText, IsModule, nets_of, cell_placed, assign_placed}
+use Rattle.ap_net.specs.Draft.{Draft}
+use Rattle.ap_net.specs.Modules.{ModuleText, IsModule, nets_of}
 use Rattle.ap_net.specs.Finished.{IsFinished}
 
 -- no name of the rest stands at a place

@@ -1,11 +1,10 @@
 -- The wires of a unit that is made of inputs, fresh wires and the output y are named n and digits.
-use Rattle.std.proofs.Common.{◌≡◌, ◌≢◌, ℕ, suc, zero, ◌+◌, ◌%◌, ◌^◌, ◌<◌, ◌≤◌, ◌&&◌, Bool, true, false, List, [], ◌∷◌, ◌++◌, length, map, Some, None, refl, sym, ap, subst, ◌∙◌, arith, length-append, zero-add}
+use Rattle.std.proofs.Common.{◌≡◌, ◌≢◌, ℕ, suc, zero, ◌+◌, ◌%◌, ◌^◌, ◌<◌, Bool, true, false, List, [], ◌∷◌, ◌++◌, length, map, Some, refl, sym, ap, ◌∙◌, arith, zero-add}
 use Rattle.std.specs.Prelude.{slice_get, option_map, codes, IsTrue}
 use Rattle.std.specs.Char.{is_ascii_digit}
 use Rattle.std.specs.List.{list_all, AllByRecursion as Each}
 use Rattle.std.specs.Fmt.{decimal}
 use Rattle.std.proofs.lemmas.Fmt.{decimal_by_steps}
-use Rattle.std.proofs.lemmas.List.{length-map}
 use Rattle.std.proofs.lemmas.List.Folds.{list_all-append}
 use Rattle.std.proofs.lemmas.Bool.Decides.{nat_tests}
 use Rattle.std.proofs.lemmas.Option.{slice_get_within, slice_get-map}
@@ -15,15 +14,14 @@ use Rattle.ap_net.specs.declared.net.ModuleNet.{ModuleNet}
 use Rattle.ap_net.specs.declared.net.Port.{Port}
 use Rattle.ap_net.specs.declared.net.Instance.{Instance}
 use Rattle.ap_net.specs.declared.net.Net.{Net}
-use Rattle.ap_net.specs.declared.net.RegNet.{RegNet}
 use Rattle.ap_net.specs.Names.{IsNew, IsNotNumbered, numbered}
 use Rattle.ap_net.specs.Wiring.{reset_of, taken_names, names_taken}
-use Rattle.ap_net.specs.Draft.{Draft, Closes, Makes, RegistersBelow, names_of}
-use Rattle.ap_net.specs.Modules.{ModuleText, IsModule, nets_of, nets_among, port_net, wire_net, reg_net, reg_by, regs_among, ports_among}
+use Rattle.ap_net.specs.Draft.{Draft, Makes, RegistersBelow, names_of}
+use Rattle.ap_net.specs.Modules.{ModuleText, IsModule, nets_of, nets_among, port_net, wire_net, reg_net, regs_among, ports_among}
 use Rattle.ap_net.specs.Finished.{IsFinished}
 use Rattle.ap_net.proofs.Laws.{IsNew-made}
 use Rattle.ap_unit.specs.Units.{ports_by}
-use Rattle.ap_unit.specs.Named.{are_digits, is_lettered, IsPlainlyNamed, NamesPlainly}
+use Rattle.ap_unit.specs.Named.{are_digits, is_lettered, NamesPlainly}
 use Rattle.ap_unit.specs.Pieces.{with_inputs, output_net}
 use Rattle.ap_unit.proofs.Placed.{not_there, same_place}
 use Rattle.ap_unit.proofs.Names.{Each-by_get}

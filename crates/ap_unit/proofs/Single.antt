@@ -3,7 +3,7 @@ use Rattle.std.proofs.Common.{◌≡◌, ℕ, suc, zero, List, [], ◌∷◌, �
 use Rattle.std.specs.Prelude.{slice_get, codes}
 use Rattle.ap_bits.specs.declared.card.Card.{Card}
 use Rattle.ap_bits.specs.declared.card.Latency.TheVariants.{One}
-use Rattle.ap_bits.specs.Cards.{select_width}
+use Rattle.ap_bits.specs.Cards.{select_width, operation_value}
 use Rattle.ap_net.specs.declared.cell.Wire.{Wire}
 use Rattle.ap_net.specs.declared.net.Role.TheVariants as role
 use Rattle.ap_net.specs.declared.net.ModuleNet.{ModuleNet}
@@ -13,7 +13,6 @@ use Rattle.ap_net.specs.Draft.{Draft, Adds, Closes, Makes, SettlesDraft, AreDriv
 use Rattle.ap_net.specs.Modules.{ModuleText, IsModule, nets_of, nets_among, ports_among, instance_placed}
 use Rattle.ap_net.specs.Finished.{IsFinished}
 use Rattle.ap_net.proofs.Laws.{Adds-trans, net-Adds, ports_among-shown}
-use Rattle.ap_unit.specs.Cards.{operation_value}
 use Rattle.ap_unit.specs.Units.{Computes, Behaves, ports_by}
 use Rattle.ap_unit.specs.Built.{IsUnitDraft}
 use Rattle.ap_unit.specs.Pieces.{with_inputs, input_wires, input_net, output_net, HasValue}

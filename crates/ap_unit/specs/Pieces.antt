@@ -6,7 +6,7 @@ use Rattle.ap_net.specs.declared.net.Role.TheVariants as role
 use Rattle.ap_net.specs.declared.net.ModuleNet.{ModuleNet}
 use Rattle.ap_net.specs.Draft.{Draft, SettlesDraft}
 use Rattle.ap_unit.specs.declared.pieces.Inputs.{Inputs}
-use Rattle.ap_unit.specs.Cards.{operation_value}
+use Rattle.ap_bits.specs.Cards.{operation_value}
 
 abbrev pub input_net : List ℕ → ℕ → ModuleNet
 input_net name width = record { name = name; width = width; role = role.Input }

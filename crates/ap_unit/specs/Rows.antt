@@ -1,5 +1,10 @@
 -- Inputs of a unit over some cycles, and assigns of a small module, at which definitions are worked out.
-use Rattle.std.specs.Prelude.{ℕ, List, [], ◌∷◌, slice_index_or, Bool, nat_lt}
+use Rattle.std.specs.Prelude.{ℕ, List, [], ◌∷◌, codes, slice_index_or, Bool, nat_lt}
+use Rattle.ap_bits.specs.declared.term.BinOp.TheVariants.{Sub}
+use Rattle.ap_bits.specs.declared.term.Term.{Bin, A, B}
+use Rattle.ap_bits.specs.declared.card.Card.{Card}
+use Rattle.ap_bits.specs.declared.card.Widths.TheVariants.{Any}
+use Rattle.ap_bits.specs.declared.card.Latency.TheVariants.{One}
 use Rattle.ap_net.specs.declared.cell.Wire.{Wire}
 use Rattle.ap_net.specs.declared.cell.TwoOp.TheVariants.{Add}
 use Rattle.ap_net.specs.declared.cell.Cell.TheVariants.{Copy, Two}
@@ -33,3 +38,10 @@ chain = record { to = bit 2; cell = Two Add (bit 0) (bit 3) } ∷ record { to = 
 
 abbrev pub below_4 : ℕ → Bool
 below_4 n = nat_lt n 4
+
+-- a kind that subtracts, and a kind of a name without operations
+abbrev pub less_card : Card
+less_card = record { name = codes "less"; ops = record { name = codes "sub"; term = Bin Sub A B } ∷ []; widths = Any; latency = One }
+
+abbrev pub named_card : List ℕ → Card
+named_card name = record { name = name; ops = []; widths = Any; latency = One }

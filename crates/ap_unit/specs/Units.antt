@@ -5,12 +5,11 @@ use Rattle.std.specs.List.{AllByRecursion as Each}
 use Rattle.ap_bits.specs.declared.card.Card.{Card}
 use Rattle.ap_bits.specs.declared.card.Latency.{Latency}
 use Rattle.ap_bits.specs.declared.card.Latency.TheVariants.{One, WidthPlusOne}
-use Rattle.ap_bits.specs.Cards.{latency_at, select_width}
+use Rattle.ap_bits.specs.Cards.{latency_at, select_width, operation_value}
 use Rattle.ap_net.specs.declared.net.Port.{Port}
 use Rattle.ap_net.specs.declared.net.Next.{Next}
 use Rattle.ap_net.specs.Wiring.{Settles, IsOrdered}
 use Rattle.ap_net.specs.Modules.{ModuleText, nets_of, reset_at}
-use Rattle.ap_unit.specs.Cards.{operation_value}
 use Rattle.ap_unit.specs.Ages.{UnitInput, age_at, AreProper}
 use Rattle.ap_unit.specs.Depends.{DependsOnNone}
 

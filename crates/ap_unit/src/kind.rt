@@ -1,7 +1,7 @@
 ghost use Rattle.std.specs.Prelude.{◌≡◌, ℕ, ◌<◌, ◌^◌, OnOk, length, slice_get, Some};
 ghost use Rattle.ap_bits.specs.declared.card.Card.{Card};
-ghost use Rattle.ap_bits.specs.Cards.{FitsWidth, allows, latency_at};
-ghost use Rattle.ap_unit.specs.Cards.{IsKindCard, operation_names, operation_value};
+ghost use Rattle.ap_bits.specs.Cards.{FitsWidth, allows, latency_at, operation_names, operation_value};
+ghost use Rattle.ap_unit.specs.Cards.{IsKindCard};
 ghost use Rattle.ap_unit.specs.Built.{IsBlank, IsUnitDraft};
 
 use ap_bits::NoMemory;

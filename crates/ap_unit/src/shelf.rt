@@ -32,7 +32,8 @@ fn is_named(kind: &Box<dyn UnitKind>, name: &str) -> bool
 
 /// The first place of a kind of this name.
 fn place_among(kinds: &[Box<dyn UnitKind>], name: &str) -> Option<usize>
-    ensures { result ≡ place_of name.now (map card kinds.now) }
+    ensures place { result ≡ place_of name.now (map card kinds.now) }
+    ensures within { IfSome result (λ i. i < length kinds.now) }
 {
     for (i, kind) in kinds.iter().enumerate() {
         if is_named(kind, name) {
@@ -83,7 +84,8 @@ impl Shelf {
 
     /// The first place of a kind of this name; `None` exactly where no kind has the name.
     pub fn find(&self, name: &str) -> Option<usize>
-        ensures { result ≡ place_of name.now (boxed_cards_of card self.now) }
+        ensures place { result ≡ place_of name.now (boxed_cards_of card self.now) }
+        ensures within { IfSome result (λ i. i < length (boxed_cards_of card self.now)) }
     {
         place_among(&self.kinds, name)
     }

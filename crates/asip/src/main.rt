@@ -4,10 +4,7 @@
 
 ghost use Rattle.std.specs.Prelude.{◌≡◌, IfOk};
 ghost use Rattle.ap_unit.specs.Shelves.{boxed_cards_of};
-ghost use Rattle.ap_comb.specs.Alu.{alu_card};
-ghost use Rattle.ap_comb.specs.Shifts.{shift_card};
-ghost use Rattle.ap_comb.specs.Counts.{count_card};
-ghost use Rattle.ap_comb.specs.Averages.{avg_card};
+ghost use Rattle.ap_bits.specs.KindCards.{alu_card, shift_card, count_card, avg_card};
 ghost use Rattle.asip.specs.Shelf.{program_cards};
 
 use ap_comb::{Alu, Avg, Count, Shift};

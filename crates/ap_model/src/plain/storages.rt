@@ -1,6 +1,7 @@
 //! What a write changes.
 ghost use Rattle.std.specs.Prelude.{◌≡◌, [], IfOk, if◌then◌else◌, slice_index_or, slice_set};
-ghost use Rattle.ap_model.specs.Stored.{with_value, with_word, with_write, with_writes};
+ghost use Rattle.ap_image.specs.Words.{with_word};
+ghost use Rattle.ap_model.specs.Stored.{with_value, with_write, with_writes};
 
 use super::lists::{copied, listed};
 use crate::storage::{PortWrite, Storages, WritePort};

@@ -9,9 +9,9 @@ returns-clause-value c = λ read s.
     let below = c.in_ok-below.ensures.value read less.0 in
     let second = c.in_ok-second.ensures.value read below.0 in
     let first = c.in_ok-first.ensures.value read second.0 in
-    let a_fits : read c.args.a.number < 2 ^ c.args.a.width = first.0.fits c.args.a.number c.args.a.width c.requires.a.declared in
-    let b_fits : read c.args.b.number < 2 ^ c.args.a.width = rw c.requires.same at (first.0.fits c.args.b.number c.args.b.width c.requires.b.declared) in
-    (first.0, less.1 ∙ rw (first.1, second.1, below.1) (signs_tell c.args.a.width c.requires.low (read c.args.a.number) (read c.args.b.number) a_fits b_fits))
+    let a_fits : read c.args.a.number < 2 ^ c.args.a.width = first.0.fits c.args.a.number c.args.a.width c.requires.operands.first.declared in
+    let b_fits : read c.args.b.number < 2 ^ c.args.a.width = rw c.requires.operands.same at (first.0.fits c.args.b.number c.args.b.width c.requires.operands.second.declared) in
+    (first.0, less.1 ∙ rw (first.1, second.1, below.1) (signs_tell c.args.a.width c.requires.operands.first.low (read c.args.a.number) (read c.args.b.number) a_fits b_fits))
 
 pub returns-clause-makes : goal.returns-clause-makes
 returns-clause-makes c = Makes-trans _ _ _ c.in_ok-first.ensures.makes (Makes-trans _ _ _ c.in_ok-second.ensures.makes (Makes-trans _ _ _ c.in_ok-below.ensures.makes c.in_ok-less.ensures.makes))

@@ -1,7 +1,7 @@
-use Rattle.std.proofs.Common.{◌≡◌, ◌+◌, ◌<◌, ◌≤◌, ℕ, List, [], ◌∷◌, ◌++◌, length, get_or, map, take, refl, sym, ap, ◌∙◌, arith, length-append, rules}
+use Rattle.std.proofs.Common.{◌≡◌, ◌+◌, ◌<◌, ℕ, List, [], ◌∷◌, ◌++◌, get_or, map, take, refl, sym, ap, ◌∙◌, arith, length-append}
 use Rattle.std.proofs.lemmas.List.{map-append, map_more}
 use Rattle.std.proofs.lemmas.List.Elements.{All-push, All-weaker, All-nil}
-use Rattle.ap_net.proofs.Laws.{Makes-refl, Makes-trans, laws}
+use Rattle.ap_net.proofs.Laws.{AreOfOneWidth-Makes, Makes-refl, Makes-trans}
 use Rattle.ap_net.specs.declared.cell.Wire.{Wire}
 use Rattle.ap_comb.specs.declared.alu.TheConstants.{OPERATIONS}
 use Rattle.ap_comb.specs.declared.alu.Operation.{Operation}
@@ -44,8 +44,5 @@ returns-clause-value c = λ read s.
     let all : c.loop-operation.operation-index ≡ 9 = omega arith in
     (h.0, h.1 ∙ ap (λ n. map (λ (o : Operation). result_of o c.args.a.width (read c.args.a.number) (read c.args.b.number)) (take n OPERATIONS)) all)
 
-pub make-requires-clause-a : goal.make-requires-clause-a
-make-requires-clause-a c = let h = c.loop-operation.invariant in search (rules, laws)
-
-pub make-requires-clause-b : goal.make-requires-clause-b
-make-requires-clause-b c = let h = c.loop-operation.invariant in search (rules, laws)
+pub make-requires-clause-operands : goal.make-requires-clause-operands
+make-requires-clause-operands c = AreOfOneWidth-Makes _ _ _ _ c.loop-operation.invariant.makes c.requires.operands

@@ -8,17 +8,17 @@ use Rattle.ap_comb.proofs.LevelSteps.{level_more, level_within, levels_few, leve
 use Rattle.ap_comb.proofs.levels.shift_by_levels.Goals as goal
 
 pub overflow_shl-i : goal.overflow_shl-i
-overflow_shl-i c = omega (arith, levels_few c.args.x.width c.args.count c.requires.width c.requires.high)
+overflow_shl-i c = omega (arith, levels_few c.args.x.width c.args.count c.requires.width c.requires.x.high)
 
 pub level-requires-clause-some : goal.level-requires-clause-some
 level-requires-clause-some c =
     let below : c.loop-i.i < c.args.count = omega arith in
-    rw (level_places c.loop-i.i c.args.count c.args.x.width below c.requires.width c.requires.high) (pow_pos c.loop-i.i)
+    rw (level_places c.loop-i.i c.args.count c.args.x.width below c.requires.width c.requires.x.high) (pow_pos c.loop-i.i)
 
 pub level-requires-clause-within : goal.level-requires-clause-within
 level-requires-clause-within c =
     let below : c.loop-i.i < c.args.count = omega arith in
-    rw (level_places c.loop-i.i c.args.count c.args.x.width below c.requires.width c.requires.high) (omega (arith, level_within c.loop-i.i c.args.count below, pow_pos c.loop-i.i, c.loop-i.invariant.width, c.requires.width))
+    rw (level_places c.loop-i.i c.args.count c.args.x.width below c.requires.width c.requires.x.high) (omega (arith, level_within c.loop-i.i c.args.count below, pow_pos c.loop-i.i, c.loop-i.invariant.width, c.requires.width))
 
 pub loop-i-init : goal.loop-i-init
 loop-i-init c = record {
@@ -41,7 +41,7 @@ loop-i-preserved c =
           let by = c.in_ok-by.ensures.value read level.0 in
           let old = before.value read by.0 in (
             old.0,
-            level.1 ∙ rw (by.1, level_places c.loop-i.i c.args.count c.args.x.width below c.requires.width c.requires.high, before.width, old.1)
+            level.1 ∙ rw (by.1, level_places c.loop-i.i c.args.count c.args.x.width below c.requires.width c.requires.x.high, before.width, old.1)
                 (level_more read c.args.way c.args.x.width (read c.args.x.number) (read c.args.by.number) c.loop-i.i (old.0.fits _ _ c.requires.x.declared) within),
           );
       makes = Makes-trans _ _ _ before.makes (Makes-trans _ _ _ c.in_ok-by.ensures.makes c.in_ok-shifted.ensures.makes);

@@ -1,4 +1,4 @@
-use Rattle.std.proofs.Common.{◌≡◌, ◌+◌, ◌*◌, ◌<◌, ◌/◌, length, refl, sym, subst, ◌∙◌, arith, rules, Some, length-append}
+use Rattle.std.proofs.Common.{◌+◌, ◌*◌, ◌<◌, length, refl, sym, subst, arith, rules, length-append}
 use Rattle.std.specs.Prelude.{All, IfSome}
 use Rattle.std.proofs.lemmas.List.Elements.{All-push, All-weaker, All-nil}
 use Rattle.std.proofs.lemmas.Option.{slice_get-get_or}

@@ -7,7 +7,7 @@ returns-clause-value c = λ read s.
     let fill = c.in_ok-fill.ensures.value read s in
     let high = c.in_ok-high.ensures.value read fill.0 in
     let low = c.in_ok-low.ensures.value read high.0 in
-    (low.0, low.1, high.1, fill.1 ∙ rw high.1 refl)
+    (low.0, (low.1, high.1, fill.1 ∙ rw high.1 refl))
 
 pub returns-clause-makes : goal.returns-clause-makes
 returns-clause-makes c = Makes-trans _ _ _ c.in_ok-low.ensures.makes (Makes-trans _ _ _ c.in_ok-high.ensures.makes c.in_ok-fill.ensures.makes)

@@ -12,8 +12,8 @@ returns-clause-value c = λ read s.
     let control = c.in_ok-control.ensures.value read near.0 in
     let some : 1 ≤ c.args.a.width = omega (arith, c.requires.width, pow_pos c.args.count) in (
       control.0,
-      λ op at. shifted.1 ∙ rw (near.1, c.in_ok-near.ensures.net.1, control.1, control.2, control.3, ← c.requires.width)
-          (shown_is (read c.args.sel.number) op c.args.a.width (read c.args.a.number) (read c.args.b.number) at some (control.0.fits _ _ c.requires.a.declared)),
+      λ op at. shifted.1 ∙ rw (near.1, c.in_ok-near.ensures.net.1, control.1.0, control.1.1, control.1.2, ← c.requires.width)
+          (shown_is (read c.args.sel.number) op c.args.a.width (read c.args.a.number) (read c.args.b.number) at some (control.0.fits _ _ c.requires.operands.first.declared)),
     )
 
 pub returns-clause-makes : goal.returns-clause-makes

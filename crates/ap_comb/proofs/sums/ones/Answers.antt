@@ -6,7 +6,7 @@ use Rattle.ap_comb.proofs.BitCounts.{count_fits}
 use Rattle.ap_comb.proofs.sums.ones.Goals as goal
 
 pub ones_from-requires-clause-room : goal.ones_from-requires-clause-room
-ones_from-requires-clause-room c = rw c.min.ensures (count_fits c.args.x.width c.requires.high)
+ones_from-requires-clause-room c = rw c.min.ensures (count_fits c.args.x.width c.requires.x.high)
 
 pub returns-clause-value : goal.returns-clause-value
 returns-clause-value c = λ read s.

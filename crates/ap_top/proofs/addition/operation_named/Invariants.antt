@@ -1,6 +1,6 @@
 use Rattle.std.proofs.Common.{◌≡◌, ℕ, ◌<◌, Some}
 use Rattle.std.specs.Prelude.{slice_get}
-use Rattle.ap_unit.specs.Cards.{operation_names}
+use Rattle.ap_bits.specs.Cards.{operation_names}
 use Rattle.ap_top.proofs.addition.operation_named.Given as goal
 
 -- none of the operations so far has the name

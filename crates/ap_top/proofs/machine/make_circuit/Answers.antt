@@ -1,4 +1,4 @@
-use Rattle.std.proofs.Common.{[], ◌∷◌, refl, subst}
+use Rattle.std.proofs.Common.{[], ◌∷◌, refl, subst, arith}
 use Rattle.std.specs.Prelude.{codes}
 use Rattle.ap_net.specs.declared.net.Instance.{Instance}
 use Rattle.ap_net.specs.Cells.{IsNet}
@@ -26,7 +26,7 @@ make-requires-clause-fits c =
     let to_address : Makes (base c.args.form) c.make_next_address.new.out = subst (λ d. Makes d c.make_next_address.new.out) c.in_ok-out.ensures c.in_ok-next_address.ensures.makes in
     let to_enable : Makes (base c.args.form) c.make_enable.new.out = Makes-trans _ _ _ to_address c.in_ok-enable.ensures.makes in
     let last : Adds c.make_enable.new.out c.make_sum.new.out = (c.in_ok-sum.ensures.places.2).adds in
-    let register : IsNet (base c.args.form).nets (wire 1 c.args.form.width) = record { declared = refl } in (
+    let register : IsNet (base c.args.form).nets (wire 1 c.args.form.width) = record { declared = refl; low = omega arith; high = omega arith } in (
       IsNet-Adds _ _ _ last c.in_ok-enable.ensures.net.0,
       c.in_ok-sum.ensures.net.0,
       IsNet-Adds _ _ _ last (IsNet-Makes _ _ _ to_enable register),

@@ -8,7 +8,7 @@ use Rattle.ap_net.specs.Cells.{IsNet}
 use Rattle.ap_net.specs.Draft.{Draft, SettlesOpen}
 use Rattle.ap_net.specs.Placing.{merged, wires_from, output_widths, placed_instance}
 use Rattle.ap_net.proofs.Laws.{IsNet-Makes, IsNotNumbered-other, Makes-trans, Places-Makes, Places-trans, SettlesOpen-before}
-use Rattle.ap_unit.specs.Cards.{operation_value}
+use Rattle.ap_bits.specs.Cards.{operation_value}
 use Rattle.ap_top.specs.Base.{wire}
 use Rattle.ap_top.proofs.FormUnit.{computes, last_part, IsPlaced-Connects}
 use Rattle.ap_top.proofs.machine.make_sum.Goals as goal

@@ -1,6 +1,6 @@
 use Rattle.std.proofs.Common.{refl}
 use Rattle.ap_unit.proofs.Laws.{shown_unit}
-use Rattle.ap_comb.specs.Alu.{alu_card}
+use Rattle.ap_bits.specs.KindCards.{alu_card}
 use Rattle.ap_comb.proofs.alu.AluUnitKind.build.Goals as goal
 
 pub returns-clause-unit : goal.returns-clause-unit

@@ -2,7 +2,7 @@ use Rattle.std.proofs.Common.{refl, ◌≤◌, ap, subst, sym}
 use Rattle.std.proofs.lemmas.Result.{on_ok_weaker}
 use Rattle.ap_unit.proofs.Laws.{shown_unit}
 use Rattle.ap_unit.specs.declared.pieces.Inputs.{Inputs}
-use Rattle.ap_comb.specs.Averages.{avg_card}
+use Rattle.ap_bits.specs.KindCards.{avg_card}
 use Rattle.ap_comb.proofs.KindValues.{avg_has_value, any_width}
 use Rattle.ap_comb.proofs.avg.AvgUnitKind.build.Goals as goal
 

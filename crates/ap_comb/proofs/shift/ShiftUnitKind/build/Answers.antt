@@ -1,7 +1,7 @@
 use Rattle.std.proofs.Common.{refl}
 use Rattle.std.proofs.lemmas.Result.{on_ok_weaker}
 use Rattle.ap_unit.proofs.Laws.{shown_unit}
-use Rattle.ap_comb.specs.Shifts.{shift_card}
+use Rattle.ap_bits.specs.KindCards.{shift_card}
 use Rattle.ap_comb.proofs.KindValues.{shift_has_value}
 use Rattle.ap_comb.proofs.shift.ShiftUnitKind.build.Goals as goal
 

@@ -1,6 +1,6 @@
 use Rattle.std.proofs.Common.{◌≤◌, length, ap, ◌∙◌, arith}
 use Rattle.std.proofs.lemmas.Grind.{common_steps}
-use Rattle.ap_model.specs.Stored.{with_word}
+use Rattle.ap_image.specs.Words.{with_word}
 use Rattle.ap_model.proofs.StorageLemmas.{word_more}
 use Rattle.ap_model.proofs.plain.storages.set_word.Goals as goal
 

@@ -1,5 +1,5 @@
 use Rattle.std.proofs.Common.{◌≡◌, ◌+◌, ◌-◌, vec_len}
-use Rattle.ap_model.specs.Stored.{with_word}
+use Rattle.ap_image.specs.Words.{with_word}
 use Rattle.ap_model.proofs.plain.storages.set_word.Given as goal
 
 abbrev pub invariant-loop-set : goal.invariant-loop-set

@@ -7,7 +7,7 @@ use Rattle.ap_net.specs.Modules.{ModuleText, outputs, instance_of}
 use Rattle.ap_net.specs.Draft.{Draft, CanFresh, names_of, wire_count}
 use Rattle.ap_net.specs.Placing.{output_widths, wires_from, fresh_nets, merged, output_wires, placed_instance, with_placed}
 use Rattle.ap_net.proofs.Among.{ports_within}
-use Rattle.ap_net.proofs.Placing.{length-wires_from, wires_from-IsNet, placed-widths, placed-nets, placed-free, placed-undriven, placed-unjoined, placed-apart, placed-Adds, placed-Closes, placed-ports, placed-value, Places-placed}
+use Rattle.ap_net.proofs.Placing.{length-wires_from, wires_from-IsNet, outputs_bounded, placed-widths, placed-nets, placed-free, placed-undriven, placed-unjoined, placed-apart, placed-Adds, placed-Closes, placed-ports, placed-value, Places-placed}
 use Rattle.ap_net.proofs.builder.Builder.place.Goals as goal
 
 pub fresh_outputs-requires-clause-widths : goal.fresh_outputs-requires-clause-widths
@@ -41,7 +41,7 @@ instance-requires-clause-nets c =
     let outs : c.as_slice.result.now ≡ output_wires (length d.nets) m = c.as_slice.ensures ∙ c.in_ok-outputs.ensures.outputs ∙ ap (λ (ps : List Port). wires_from (length d.nets) (output_widths ps)) c.ports.ensures in
     let nets : c.deref.result.now ≡ merged (outputs m) c.args.inputs.now (output_wires (length d.nets) m) =
     c.deref.ensures.value ∙ c.in_ok-nets.ensures ∙ (λ j. merged (map (λ (p : Port). p.output) (c.ports-2.ensures j)) c.args.inputs.now (outs j)) in
-    rw (mid, nets) (placed-nets d c.args.name.now m c.args.inputs.now wired joined c.requires.widths c.requires.nets)
+    rw (mid, nets) (placed-nets d c.args.name.now m c.args.inputs.now wired joined c.requires.widths c.requires.nets (ports_within c.args.whole.now c.rules.ensures.wired.widths))
 
 pub instance-requires-clause-free : goal.instance-requires-clause-free
 instance-requires-clause-free c =
@@ -124,7 +124,7 @@ returns-clause-nets c =
     let made : c.instance.new.self ≡ with_placed d c.args.name.now m c.args.inputs.now =
     c.in_ok-instance.ensures.ok ∙ (λ j. record (mid j) { instances = (mid j).instances ++ instance_of c.args.name.now m (nets j) ∷ [] }) in
     let answered : c.in_ok-outputs.outputs ≡ output_wires (length d.nets) m = c.in_ok-outputs.ensures.outputs ∙ ap (λ (ps : List Port). wires_from (length d.nets) (output_widths ps)) c.ports.ensures in
-    rw (made, answered) (wires_from-IsNet d.nets (wire_count d.nets) (output_widths m.ports))
+    rw (made, answered) (wires_from-IsNet d.nets (wire_count d.nets) (output_widths m.ports) (outputs_bounded m.ports (ports_within m c.rules.ensures.wired.widths)))
 
 pub returns-clause-value : goal.returns-clause-value
 returns-clause-value c =

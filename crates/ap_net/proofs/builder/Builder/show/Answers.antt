@@ -7,7 +7,7 @@ use Rattle.ap_net.proofs.Drafts.{Adds-made, Closes-made, Settles-made}
 use Rattle.ap_net.proofs.builder.Builder.show.Goals as goal
 
 pub cell-requires-clause-net : goal.cell-requires-clause-net
-cell-requires-clause-net c = rw (c.in_ok-to.ensures.ok, c.in_ok-to.ensures.wire) (IsNet-end c.args.self.now.nets _)
+cell-requires-clause-net c = rw (c.in_ok-to.ensures.ok, c.in_ok-to.ensures.wire) (IsNet-end c.args.self.now.nets _ c.requires.low c.requires.high)
 
 pub cell-requires-clause-fits : goal.cell-requires-clause-fits
 cell-requires-clause-fits c = rw (c.in_ok-to.ensures.ok, c.in_ok-to.ensures.wire) (CellFits-more c.args.self.now.nets _ c.args.width c.args.cell c.requires.fits)
@@ -26,7 +26,7 @@ cell-requires-clause-unjoined c =
     rw (c.in_ok-to.ensures.ok, c.in_ok-to.ensures.wire) (Unjoined-end c.args.self.now.nets c.args.self.now.instances connected.declared)
 
 pub returns-clause-net : goal.returns-clause-net
-returns-clause-net c = rw (c.in_ok-cell.ensures.ok, c.in_ok-to.ensures.ok, c.in_ok-to.ensures.wire) (IsNet-end c.args.self.now.nets _, refl)
+returns-clause-net c = rw (c.in_ok-cell.ensures.ok, c.in_ok-to.ensures.ok, c.in_ok-to.ensures.wire) (IsNet-end c.args.self.now.nets _ c.requires.low c.requires.high, refl)
 
 pub returns-clause-value : goal.returns-clause-value
 returns-clause-value c = rw (c.in_ok-cell.ensures.ok, c.in_ok-to.ensures.ok, c.in_ok-to.ensures.wire) (Settles-made c.args.self.now _ c.args.cell)
