@@ -12,7 +12,7 @@ pub mod numbers;
 pub mod reading;
 
 pub use digits::{put_dec, put_hex, written_is_read};
-pub use line::{Line, LineList, Span, SpanList};
+pub use line::{Line, Span, SpanList};
 pub use numbers::{NumberFault, number};
 pub use reading::{NoMemory, lines};
 

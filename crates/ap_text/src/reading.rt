@@ -4,7 +4,7 @@ ghost use Rattle.ap_text.specs.Lines.{lines_of, tokens_of, text_line, is_comment
 ghost use Rattle.ap_text.specs.Lines as bytes;
 ghost use Rattle.ap_text.specs.Spans.{IsWithin, IsLineWithin, AreLinesWithin, bytes_in, line_in, unless_empty, unless_bare};
 
-use crate::line::{Line, LineList, Span, SpanList};
+use crate::line::{Line, Span, SpanList};
 use std::alloc::Global;
 
 /// Memory ran out.
@@ -16,12 +16,12 @@ pub struct NoMemory;
 /// Each line ends with a line feed, which the last may lack; all are counted, from 1. Every span of a token is a part
 /// of this text. `NoMemory` comes only where memory ran out. The time goes with the number of bytes.
 #[tactic(auto, unfolding(crate::specs::Lines::lines_of))]
-pub fn lines(alloc: Global, text: &[u8]) -> Result<LineList, NoMemory>
+pub fn lines(alloc: Global, text: &[u8]) -> Result<Vec<Line>, NoMemory>
     requires { length text.now ≤ 67108864 }
-    ensures lines { IfOk result (λ list. map (line_in text.now) list ≡ lines_of text.now) }
-    ensures within { IfOk result (λ list. AreLinesWithin text.now list) }
+    ensures lines { IfOk result (λ list. map (line_in text.now) list.items ≡ lines_of text.now) }
+    ensures within { IfOk result (λ list. AreLinesWithin text.now list.items) }
 {
-    let mut list = LineList::new(alloc);
+    let mut list = Vec::new(alloc);
     let mut from = 0;
     let mut number = 1;
     for at in 0..text.len() {
@@ -55,8 +55,8 @@ fn read_line(alloc: Global, text: &[u8], part: Span, number: u32) -> Result<Line
 }
 
 /// Adds a line, unless it has neither a token nor a bad byte.
-fn add_line(list: &mut LineList, line: Line) -> Result<(), NoMemory>
-    ensures { OnOk result (list.new ≡ list.old ++ unless_bare line) }
+fn add_line(list: &mut Vec<Line>, line: Line) -> Result<(), NoMemory>
+    ensures { OnOk result (list.new.items ≡ list.old.items ++ unless_bare line) }
 {
     if !line.tokens.is_empty() || !line.clean {
         list.push(line).map_err(|_| NoMemory)?;

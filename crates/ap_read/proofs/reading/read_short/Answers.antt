@@ -21,29 +21,29 @@ lacking lines of_text result answer e is h = sym (ap is_missing_some e) ∙ sym 
 
 pub returns-then-is_missing_some-clause-refused : goal.returns-then-is_missing_some-clause-refused
 returns-then-is_missing_some-clause-refused c =
-    let lines = same c.args.text.now _ _ c.as_slice-lines.ensures c.in_ok-list.ensures.lines in
+    let lines = same c.args.text.now _ _ c.as_slice-lines.ensures.value c.in_ok-list.ensures.lines in
     subst (IsReadFault c.args.text.now) (sym c.refused.ensures) (missing_first c.args.text.now c.requires (lacking _ _ _ _ lines c.is_missing_some.ensures c.if-is_missing_some.true))
 
 pub read_lines-requires-clause-rising : goal.read_lines-requires-clause-rising
 read_lines-requires-clause-rising c =
-    let lines = same c.args.text.now _ _ c.as_slice-lines.ensures c.in_ok-list.ensures.lines in
+    let lines = same c.args.text.now _ _ c.as_slice-lines.ensures.value c.in_ok-list.ensures.lines in
     subst (LinesRise 0) (sym lines) (lines_rise c.args.text.now)
 
 pub returns-in_err-statements-clause-refused : goal.returns-in_err-statements-clause-refused
 returns-in_err-statements-clause-refused c =
-    let lines = same c.args.text.now _ _ c.as_slice-lines.ensures c.in_ok-list.ensures.lines in
+    let lines = same c.args.text.now _ _ c.as_slice-lines.ensures.value c.in_ok-list.ensures.lines in
     let missing = lacking _ _ _ _ lines c.is_missing_some.ensures c.if-is_missing_some.false in
     let p = err_from_is_err_and c.from_residual-in_err-statements.result c.from_residual-in_err-statements.ensures.1 in
     rw (p.1, p.2) (least_of_text c.args.text.now _ c.requires missing (subst (λ (l : List TextLine). IsLineFault l c.in_err-statements.field-0.0) lines c.in_err-statements.ensures.fault))
 
 pub new-requires : goal.new-requires
 new-requires c =
-    let lines = same c.args.text.now _ _ c.as_slice-lines.ensures c.in_ok-list.ensures.lines in
+    let lines = same c.args.text.now _ _ c.as_slice-lines.ensures.value c.in_ok-list.ensures.lines in
     let missing = lacking _ _ _ _ lines c.is_missing_some.ensures c.if-is_missing_some.false in
     description c.in_ok-statements.statements _ (lines_rise c.args.text.now) missing (subst (λ (l : List TextLine). EachBeside IsAt c.in_ok-statements.statements l) lines c.in_ok-statements.ensures.said) c.in_ok-statements.ensures.order
 
 pub returns-clause-faultless : goal.returns-clause-faultless
 returns-clause-faultless c =
-    let lines = same c.args.text.now _ _ c.as_slice-lines.ensures c.in_ok-list.ensures.lines in
+    let lines = same c.args.text.now _ _ c.as_slice-lines.ensures.value c.in_ok-list.ensures.lines in
     let missing = lacking _ _ _ _ lines c.is_missing_some.ensures c.if-is_missing_some.false in
     faultless c.spelling_is_unique.ensures c.args.text.now c.in_ok-statements.statements c.requires missing (subst (λ (l : List TextLine). EachBeside IsAt c.in_ok-statements.statements l) lines c.in_ok-statements.ensures.said) c.in_ok-statements.ensures.order

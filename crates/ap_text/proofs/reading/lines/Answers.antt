@@ -17,7 +17,7 @@ loop-at-preserved c =
 pub returns-clause-lines : goal.returns-clause-lines
 returns-clause-lines c =
     let ended : c.loop-at.at ≡ length c.args.text.now = omega arith in
-    let so_far : LinesSoFar c.args.text.now c.loop-at.list c.loop-at.number c.loop-at.from (length c.args.text.now) = rw ended at c.loop-at.invariant in
+    let so_far : LinesSoFar c.args.text.now c.loop-at.list.items c.loop-at.number c.loop-at.from (length c.args.text.now) = rw ended at c.loop-at.invariant in
     rw c.in_ok-add_line-2.ensures (lines_so_far-end _ _ _ _ _ so_far c.in_ok-line-2.ensures.line)
 
 pub returns-clause-within : goal.returns-clause-within
