@@ -5,9 +5,9 @@ use Rattle.std.specs.List.{AllByRecursion as Each, list_any, list_all}
 use Rattle.std.specs.Option.{option_map_or}
 use Rattle.std.proofs.lemmas.Bool.{and_from, or_left, or_right, or_parts, false_from_ne_true, not-false, eqb-true, eq-eqb, and_cases, both_ways}
 use Rattle.ap_desc.specs.Clean.{IsClean}
-use Rattle.ap_desc.specs.Designs.{Matches, IsRight, is_named_nop}
+use Rattle.ap_desc.specs.Designs.{Matches, IsRight, fields_of, is_named_nop}
 use Rattle.ap_desc.specs.Sound.{IsEncoded, AreApart, AreFixedFitting, IsEmptyNop, fits_field}
-use Rattle.ap_desc.specs.WordFaults.{is_wrong_sum, is_unfit, fields_of, has_lines}
+use Rattle.ap_desc.specs.WordFaults.{is_wrong_sum, is_unfit, has_lines}
 use Rattle.ap_desc.specs.declared.design.Design.{Design}
 use Rattle.ap_desc.specs.declared.design.Format.{Format}
 use Rattle.ap_desc.specs.declared.design.Field.{Field}

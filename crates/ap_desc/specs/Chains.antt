@@ -1,5 +1,5 @@
 -- From which lines an operand comes within a stage, the union graph of a stage, and its loops. The rules are the project's own.
-use Rattle.std.specs.Prelude.{◌≡◌, ℕ, ◌<◌, ◌==◌, nat_le, nat_lt, Bool, true, false, IsTrue, List, [], ◌∷◌, ◌++◌, filter, Any, Contains, Option, Some, None, option_and_then, option_to_list, slice_get, if◌then◌else◌, ◌↔◌}
+use Rattle.std.specs.Prelude.{◌≡◌, ℕ, ◌<◌, ◌==◌, nat_le, nat_lt, Bool, true, false, IsTrue, List, [], ◌∷◌, ◌++◌, filter, Any, Contains, Option, Some, None, option_and_then, option_to_list, slice_get, if◌then◌else◌, ◌↔◌, ◌⊎◌}
 use Rattle.std.specs.List.{AllByRecursion as Each}
 use Rattle.ap_desc.specs.declared.design.Design.{Design}
 use Rattle.ap_desc.specs.declared.design.Instr.{Instr}
@@ -72,6 +72,11 @@ Reaches instr stage a source = (through : List Micro) × ComesFrom instr stage a
 -- the operand is the local of the line, or is made from it by wiring lines of the stage
 abbrev pub IsWiredFrom : Instr → ℕ → Arg → Micro → Type 0
 IsWiredFrom instr stage a source = (through : List Micro) × Each (λ (m : Micro). IsTrue (is_wiring m.act)) through × ComesFrom instr stage a through source
+
+-- the operand is made by the source, or by a line of the stage that has the second property
+abbrev pub IsMadeBy : Instr → ℕ → Arg → Micro → (Micro → Type 0) → Type 0
+IsMadeBy instr stage a source GoesOn =
+    (m : Micro) × (maker_in instr stage a ≡ Some m) × ((m ≡ source) ⊎ GoesOn m)
 
 -- an edge of the union graph of a stage: some line of the stage, of a number that counts, uses `to` with an operand that comes by wiring
 -- from a line of its instruction and stage that uses `from`

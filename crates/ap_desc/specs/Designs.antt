@@ -1,8 +1,9 @@
 -- What holds of the design that a description without fault describes, and which words an instruction matches.
-use Rattle.std.specs.Prelude.{◌≡◌, ℕ, ◌+◌, ◌-◌, ◌*◌, ◌/◌, ◌%◌, ◌^◌, ◌<◌, ◌&&◌, nat_le, nat_lt, Bool, IsTrue, List, [], ◌∷◌, ◌++◌, length, map, sum_by, bit_and, codes, Option, Some, None, slice_get, IsSomeAnd, IfSome, if◌then◌else◌}
-use Rattle.std.specs.List.{list_all, list_any, flat_map, filter_map, zip}
+use Rattle.std.specs.Prelude.{◌≡◌, ℕ, ◌+◌, ◌-◌, ◌*◌, ◌/◌, ◌%◌, ◌^◌, ◌<◌, ◌&&◌, nat_le, nat_lt, Bool, IsTrue, List, [], ◌∷◌, ◌++◌, length, map, sum_by, bit_and, codes, Option, Some, None, slice_get, IsSomeAnd, IfSome, if◌then◌else◌, fold, option_to_list}
+use Rattle.std.specs.List.{list_all, list_any, flat_map, zip}
 use Rattle.std.specs.Option.{option_map_or}
 use Rattle.std.specs.Str.{bytes_eq}
+use Rattle.ap_bits.specs.Cards.{select_width_for}
 use Rattle.ap_desc.specs.declared.design.Design.{Design}
 use Rattle.ap_desc.specs.declared.design.Reg.{Reg}
 use Rattle.ap_desc.specs.declared.design.File.{File}
@@ -38,28 +39,66 @@ is_between low high n = nat_le low n && nat_le n high
 abbrev pub is_cell_count : ℕ → Bool
 is_cell_count cells = list_any (λ bits. nat_le cells (2 ^ bits) && nat_le (2 ^ bits) cells) (1 ∷ 2 ∷ 3 ∷ 4 ∷ 5 ∷ 6 ∷ [])
 
+-- the limits of each number that a description gives: of the header's
+abbrev pub is_stage_count : ℕ → Bool
+is_stage_count count = is_between 2 8 count
+
+abbrev pub is_address_width : ℕ → Bool
+is_address_width bits = is_between 4 16 bits
+
+abbrev pub is_word_width : ℕ → Bool
+is_word_width bits = is_between 8 64 bits
+
+-- transfers stand in a stage after the first
+abbrev pub is_transfer_stage : ℕ → ℕ → Bool
+is_transfer_stage stages stage = is_between 1 (stages - 1) stage
+
+abbrev pub is_slot_count : ℕ → Bool
+is_slot_count slots = nat_le slots 8
+
+-- of a file's and a memory's, of a field's width, and of the stage of a line
+abbrev pub is_file_shape : ℕ → ℕ → ℕ → ℕ → Bool
+is_file_shape width cells reads writes = is_width width && is_cell_count cells && is_between 1 4 reads && is_between 1 2 writes
+
+abbrev pub is_mem_shape : ℕ → ℕ → Bool
+is_mem_shape address width = is_between 1 16 address && is_width width
+
+abbrev pub is_field_width : ℕ → ℕ → Bool
+is_field_width word width = is_between 1 word width
+
+abbrev pub is_stage : ℕ → ℕ → Bool
+is_stage stages stage = nat_lt stage stages
+
+-- the value has no more bits than these
+abbrev pub has_bits : ℕ → ℕ → Bool
+has_bits width value = nat_lt value (2 ^ width)
+
 abbrev pub is_reg_within : Reg → Bool
-is_reg_within reg = is_width reg.width && nat_lt reg.reset (2 ^ reg.width)
+is_reg_within reg = is_width reg.width && has_bits reg.width reg.reset
 
 abbrev pub is_file_within : File → Bool
-is_file_within file = is_width file.width && is_cell_count file.cells && is_between 1 4 file.reads && is_between 1 2 file.writes
+is_file_within file = is_file_shape file.width file.cells file.reads file.writes
 
 abbrev pub is_mem_within : Mem → Bool
-is_mem_within mem = is_between 1 16 mem.address && is_width mem.width
+is_mem_within mem = is_mem_shape mem.address mem.width
 
 abbrev pub is_format_within : ℕ → Format → Bool
-is_format_within word format = is_between 1 16 (length format.fields) && list_all (λ (f : Field). is_between 1 word f.width) format.fields
+is_format_within word format = is_between 1 16 (length format.fields) && list_all (λ (f : Field). is_field_width word f.width) format.fields
 
 abbrev pub is_instr_within : ℕ → Instr → Bool
-is_instr_within stages instr = nat_le (length instr.micros) 64 && list_all (λ (m : Micro). nat_lt m.stage stages) instr.micros
+is_instr_within stages instr = nat_le (length instr.micros) 64 && list_all (λ (m : Micro). is_stage stages m.stage) instr.micros
+
+-- the bits that number a file's cells
+abbrev pub index_bits : File → ℕ
+index_bits file = select_width_for file.cells
 
 -- the design's numbers are within the limits
 pub record IsWithinLimits (design : Design) : Type 0 where
-  pub stages : IsTrue (is_between 2 8 design.stages)
-  pub address : IsTrue (is_between 4 16 design.address)
-  pub word : IsTrue (is_between 8 64 design.word)
-  pub branch : IsTrue (is_between 1 (design.stages - 1) design.branch)
-  pub slots : IsTrue (nat_le design.slots 8)
+  pub stages : IsTrue (is_stage_count design.stages)
+  pub address : IsTrue (is_address_width design.address)
+  pub word : IsTrue (is_word_width design.word)
+  pub branch : IsTrue (is_transfer_stage design.stages design.branch)
+  pub slots : IsTrue (is_slot_count design.slots)
   pub regs : IsTrue (nat_le (length design.regs) 64 && list_all is_reg_within design.regs)
   pub files : IsTrue (nat_le (length design.files) 8 && list_all is_file_within design.files)
   pub mems : IsTrue (nat_le (length design.mems) 4 && list_all is_mem_within design.mems)
@@ -175,18 +214,26 @@ abbrev pub AreInRange : Design → ℕ → List Field → List Micro → Type 0
 AreInRange design locals fields [] = Unit {0}
 AreInRange design locals fields (m ∷ micros) = IsInRange design locals fields m.act × AreInRange design (locals + assigned_count m.act) fields micros
 
+-- the widths of the locals that these lines assign, in order
+abbrev pub widths_of : Design → List Field → List Micro → List ℕ
+widths_of design fields micros = fold (λ widths (m : Micro). widths ++ option_to_list (local_width design widths fields m.act)) [] micros
+
 -- an instruction with a format of these fields is as the design's fields say
 pub record IsInstr (design : Design) (fields : List Field) (instr : Instr) : Type 0 where
   pub fixed : length instr.fixed ≡ length fields
   pub mask : instr.fixed_mask ≡ sum_by (mask_bits design.word) (zip fields instr.fixed)
   pub value : instr.fixed_value ≡ sum_by (value_bits design.word) (zip fields instr.fixed)
-  pub locals : instr.locals ≡ filter_map (λ (m : Micro). local_width design instr.locals fields m.act) instr.micros
+  pub locals : instr.locals ≡ widths_of design fields instr.micros
   pub widths : IsTrue (list_all is_width instr.locals)
   pub range : AreInRange design 0 fields instr.micros
 
 -- its format is declared, and it is as the design's fields say
 abbrev pub IsRight : Design → Instr → Type 0
 IsRight design instr = IsSomeAnd (slice_get design.formats instr.format) (λ format. IsInstr design format.fields instr)
+
+-- the fields of the instruction's format
+abbrev pub fields_of : Design → Instr → List Field
+fields_of design instr = option_map_or (λ (f : Format). f.fields) (slice_get design.formats instr.format) []
 
 abbrev pub is_named_nop : Instr → Bool
 is_named_nop instr = bytes_eq instr.name (codes "NOP")

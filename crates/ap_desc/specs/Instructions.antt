@@ -17,7 +17,7 @@ use Rattle.ap_desc.specs.declared.design.Arg.{Arg}
 use Rattle.ap_desc.specs.declared.design.Arg.TheVariants as arg
 use Rattle.ap_desc.specs.declared.design.Act.{Act}
 use Rattle.ap_desc.specs.declared.design.Act.TheVariants as act
-use Rattle.ap_desc.specs.Designs.{local_width, mask_bits, value_bits}
+use Rattle.ap_desc.specs.Designs.{widths_of, mask_bits, value_bits}
 use Rattle.ap_desc.specs.Order.{is_micro}
 use Rattle.ap_desc.specs.Parts.{place_of, reg_names, file_names, mem_names, input_names, unit_names, format_names, names_of_fields, fields_named, operation_names, card_of_unit}
 use Rattle.ap_desc.specs.Reserved.{is_among}
@@ -126,10 +126,6 @@ each_after f earlier (x ∷ xs) = option_to_list (f earlier x) ++ each_after f (
 -- the micro-operations that the lines of an instruction say
 abbrev pub micros_of : List Card → Design → List Field → List Numbered → List Micro
 micros_of cards design fields lines = each_after (λ earlier n. micro_of cards design fields (local_names earlier) n) [] lines
-
--- the widths of the locals that these micro-operations assign, in order
-abbrev pub widths_of : Design → List Field → List Micro → List ℕ
-widths_of design fields micros = fold (λ widths (m : Micro). widths ++ option_to_list (local_width design widths fields m.act)) [] micros
 
 -- the value that an instr line gives a field, if it gives one
 abbrev pub fixed_of : List FieldNumber → Field → Option ℕ

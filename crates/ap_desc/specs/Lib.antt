@@ -19,6 +19,7 @@ pub mod Meaning
 pub mod NameFaults
 pub mod Order
 pub mod Parts
+pub mod Patterns
 pub mod Ports
 pub mod Reading
 pub mod Reserved

@@ -1,6 +1,6 @@
 -- Designs that are sound: what their lines name is there, names differ, and every operand has the width that is needed. Designs
 -- whose words are without fault.
-use Rattle.std.specs.Prelude.{◌≡◌, ℕ, ◌^◌, ◌<◌, ◌&&◌, nat_lt, not, Bool, true, IsTrue, List, [], ◌∷◌, ◌++◌, map, sum_by, Option, slice_get, IsSomeAnd}
+use Rattle.std.specs.Prelude.{◌≡◌, ℕ, ◌^◌, ◌<◌, ◌&&◌, not, Bool, true, IsTrue, List, [], ◌∷◌, ◌++◌, map, sum_by, Option, slice_get, IsSomeAnd}
 use Rattle.std.specs.List.{AllByRecursion as Each, list_all, list_any, zip}
 use Rattle.std.specs.Option.{option_map_or}
 use Rattle.std.specs.Str.{bytes_eq}
@@ -9,7 +9,7 @@ use Rattle.ap_desc.specs.declared.design.Format.{Format}
 use Rattle.ap_desc.specs.declared.design.Field.{Field}
 use Rattle.ap_desc.specs.declared.design.Instr.{Instr}
 use Rattle.ap_desc.specs.declared.design.Micro.{Micro}
-use Rattle.ap_desc.specs.Designs.{Matches, IsWithinLimits, names_in, lines_in, is_named_nop, Rise, ArePlaced, IsRight, arg_width}
+use Rattle.ap_desc.specs.Designs.{Matches, IsWithinLimits, has_bits, names_in, lines_in, is_named_nop, Rise, ArePlaced, IsRight, arg_width}
 use Rattle.ap_desc.specs.Parts.{reg_names, file_names, mem_names, input_names, unit_names, format_names, names_of_fields}
 use Rattle.ap_desc.specs.Reserved.{is_free_name}
 use Rattle.ap_desc.specs.Widths.{has_widths}
@@ -51,7 +51,7 @@ pub record IsSound (design : Design) : Type 0 where
 
 -- each fixed value fits its field
 abbrev pub fits_field : Field × Option ℕ → Bool
-fits_field (field, value) = option_map_or (λ v. nat_lt v (2 ^ field.width)) value true
+fits_field (field, value) = option_map_or (has_bits field.width) value true
 
 abbrev pub AreFixedFitting : Design → Instr → Type 0
 AreFixedFitting design instr = IsSomeAnd (slice_get design.formats instr.format) (λ format. IsTrue (list_all fits_field (zip format.fields instr.fixed)))

@@ -10,7 +10,7 @@ use Rattle.ap_desc.specs.declared.design.Unit.{Unit as Resource}
 use Rattle.ap_desc.specs.declared.design.Arg.{Arg}
 use Rattle.ap_desc.specs.declared.design.Act.{Act}
 use Rattle.ap_desc.specs.declared.design.Act.TheVariants as act
-use Rattle.ap_desc.specs.Designs.{is_width, width_at}
+use Rattle.ap_desc.specs.Designs.{is_width, has_bits, width_at}
 
 abbrev pub reg_width : Design → ℕ → ℕ
 reg_width design reg = width_at (λ (r : Reg). r.width) design.regs reg
@@ -58,7 +58,7 @@ is_bad_slice width _ = false
 
 -- the constant doesn't fit
 abbrev pub is_wide_constant : Act → Bool
-is_wide_constant (act.Const bits value) = not (nat_lt value (2 ^ bits))
+is_wide_constant (act.Const bits value) = not (has_bits bits value)
 is_wide_constant _ = false
 
 -- the guard, where there is one, hasn't one bit

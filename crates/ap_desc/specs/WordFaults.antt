@@ -1,6 +1,6 @@
 -- The faults of a design's code words: formats that don't fill the word, fixed values that don't fit, instructions that share a word,
 -- and a NOP that does something. The rules are the project's own.
-use Rattle.std.specs.Prelude.{◌≡◌, ℕ, ◌^◌, ◌<◌, ◌==◌, ◌&&◌, nat_lt, not, Bool, true, false, List, [], ◌∷◌, sum_by, zip, Option, Some, slice_get}
+use Rattle.std.specs.Prelude.{◌≡◌, ℕ, ◌^◌, ◌<◌, ◌==◌, ◌&&◌, not, Bool, true, false, List, [], ◌∷◌, sum_by, zip, Option, Some, slice_get}
 use Rattle.std.specs.List.{list_any}
 use Rattle.std.specs.Option.{option_map_or}
 use Rattle.ap_desc.specs.declared.design.Design.{Design}
@@ -8,7 +8,7 @@ use Rattle.ap_desc.specs.declared.design.Format.{Format}
 use Rattle.ap_desc.specs.declared.design.Field.{Field}
 use Rattle.ap_desc.specs.declared.design.Instr.{Instr}
 use Rattle.ap_desc.specs.declared.design.Micro.{Micro}
-use Rattle.ap_desc.specs.Designs.{Matches, is_named_nop}
+use Rattle.ap_desc.specs.Designs.{Matches, fields_of, has_bits, is_named_nop}
 
 -- the fields' widths don't sum to the width of a code word
 abbrev pub is_wrong_sum : ℕ → Format → Bool
@@ -20,11 +20,7 @@ has_wrong_sum design line = list_any (λ (f : Format). is_wrong_sum design.word 
 
 -- the fixed value, where there is one, doesn't fit its field
 abbrev pub is_unfit : Field × Option ℕ → Bool
-is_unfit (field, value) = option_map_or (λ v. not (nat_lt v (2 ^ field.width))) value false
-
--- the fields of the instruction's format
-abbrev pub fields_of : Design → Instr → List Field
-fields_of design instr = option_map_or (λ (f : Format). f.fields) (slice_get design.formats instr.format) []
+is_unfit (field, value) = option_map_or (λ v. not (has_bits field.width v)) value false
 
 -- an instruction at the line has a fixed value that doesn't fit
 abbrev pub has_unfit_value : Design → ℕ → Bool

@@ -1,20 +1,33 @@
 //! Laws of the definitions. They do nothing: their contracts are what they say.
-ghost use Rattle.std.specs.Prelude.{◌≡◌, ◌↔◌, ℕ, List, Some, true};
+ghost use Rattle.std.specs.Prelude.{◌≡◌, ◌^◌, ◌<◌, ◌==◌, ◌↔◌, ◌⊎◌, filter_map, nat_le, nat_lt, ℕ, [], ◌∷◌, ◌++◌, Any, Contains, IsTrue, List, Some, slice_get, true};
 ghost use Rattle.ap_bits.specs.declared.card.Card.{Card};
-ghost use Rattle.ap_desc.specs.Chains.{ClosesLoop, IsChainOrder, IsLooped};
+ghost use Rattle.ap_desc.specs.Chains.{ClosesLoop, Edge, IsChainOrder, IsLooped, IsMadeBy, IsWiredFrom, Reaches, is_wiring, maker_in, makers, operands_of};
 ghost use Rattle.ap_desc.specs.Clean.{IsClean};
+ghost use Rattle.ap_desc.specs.Declarations.{declarations};
 ghost use Rattle.ap_desc.specs.Descriptions.{IsDescription};
 ghost use Rattle.ap_desc.specs.DesignOf.{design_of};
 ghost use Rattle.ap_desc.specs.Forms.{statement_in};
+ghost use Rattle.ap_desc.specs.Designs.{IsInstr, index_bits, local_width};
 ghost use Rattle.ap_desc.specs.Least.{HoldsNowhere, IsLeast};
 ghost use Rattle.ap_desc.specs.StatementFaults.{HasStatementFault};
 ghost use Rattle.ap_desc.specs.Meaning.{IsLeastFault, IsLeastMeaningFault, IsLeastPortFault, IsLeastWordFault, IsMeaningful, MeetsFault, MeetsMeaningFault, MeetsPortFault, MeetsWordFault};
+ghost use Rattle.ap_desc.specs.Patterns.{Agree, LiesInWord, ShareWord};
+ghost use Rattle.ap_desc.specs.Order.{section};
+ghost use Rattle.ap_desc.specs.Ports.{micros_in};
 ghost use Rattle.ap_desc.specs.Reading.{ReadsAs};
+ghost use Rattle.ap_desc.specs.Scope.{scope_after, scope_with, with_declared};
 ghost use Rattle.ap_desc.specs.Shown.{renumbered, shown_text};
-ghost use Rattle.ap_desc.specs.Sound.{IsEncoded};
+ghost use Rattle.ap_desc.specs.Sound.{IsEncoded, IsSound};
 ghost use Rattle.ap_desc.specs.Spelling.{Spells};
+ghost use Rattle.ap_desc.specs.Widths.{is_index};
 ghost use Rattle.ap_desc.specs.declared.description.Numbered.{Numbered};
 ghost use Rattle.ap_desc.specs.declared.design.Design.{Design};
+ghost use Rattle.ap_desc.specs.declared.design.Arg.{Arg};
+ghost use Rattle.ap_desc.specs.declared.design.Arg.TheVariants as arg;
+ghost use Rattle.ap_desc.specs.declared.design.Field.{Field};
+ghost use Rattle.ap_desc.specs.declared.design.File.{File};
+ghost use Rattle.ap_desc.specs.declared.design.Instr.{Instr};
+ghost use Rattle.ap_desc.specs.declared.design.Micro.{Micro};
 ghost use Rattle.ap_desc.specs.declared.design.Node.{Node};
 ghost use Rattle.ap_desc.specs.declared.fault.Refusal.{Refusal};
 ghost use Rattle.ap_desc.specs.declared.statement.Statement.{Statement};
@@ -72,10 +85,91 @@ pub fn loops_and_orders()
     ensures line { (design : Design) (stage line other : ℕ) → ClosesLoop design stage line → ClosesLoop design stage other → line ≡ other }
 {}
 
+/// What the lines before a line of an instruction declare is what the whole description declares. One more line adds what it declares,
+/// and one more line's scope is the scope before it with what the line adds.
+pub fn descriptions_grow()
+    ensures whole { (statements : List Numbered) (cards : List Card) (before : List Numbered) (n : Numbered)
+        (after : List Numbered) → IsDescription statements → statements ≡ before ++ n ∷ after
+        → section n.statement ≡ 10
+        → declarations before cards ≡ declarations statements cards }
+    ensures declared { (statements : List Numbered) (cards : List Card) (before : List Numbered)
+        (n : Numbered) (after : List Numbered) → IsDescription statements
+        → statements ≡ before ++ n ∷ after
+        → declarations (before ++ n ∷ []) cards
+        ≡ with_declared cards n.line n.statement (declarations before cards) }
+    ensures scope { (statements : List Numbered) (cards : List Card) (before : List Numbered) (n : Numbered)
+        (after : List Numbered) → IsDescription statements → statements ≡ before ++ n ∷ after
+        → scope_after (before ++ n ∷ []) cards ≡ scope_with cards (scope_after before cards) n }
+{}
+
+/// The cells of a file are two to the power of its index bits, and an index has so many bits.
+pub fn index_bits_number_cells()
+    ensures cells { (design : Design) (file : File) → IsSound design → Contains design.files file
+        → 2 ^ index_bits file ≡ file.cells }
+    ensures index { (design : Design) (place : ℕ) (file : File) (bits : ℕ) → IsSound design
+        → slice_get design.files place ≡ Some file
+        → IsTrue (is_index design place bits) ↔ (bits ≡ index_bits file) }
+{}
+
+/// The widths of an instruction's locals are those that its lines assign, each asked with the widths of all.
+pub fn locals_have_the_widths_of_lines()
+    ensures { (design : Design) (fields : List Field) (instr : Instr) → IsInstr design fields instr
+        → instr.locals
+        ≡ filter_map (λ (m : Micro). local_width design instr.locals fields m.act) instr.micros }
+{}
+
+/// A stage with a loop has a line that closes it. The edges up to a line are those before it and its own.
+pub fn loops_are_closed()
+    ensures closes { (design : Design) (stage : ℕ) → IsLooped design stage (λ n. true)
+        → (line : ℕ) × ClosesLoop design stage line }
+    ensures up_to { (design : Design) (stage line : ℕ) (from to : Node)
+        → Edge design stage (λ n. nat_le n line) from to
+        ↔ (Edge design stage (λ n. nat_lt n line) from to ⊎ Edge design stage (λ n. n == line) from to) }
+{}
+
+/// Of the lines of a sound design's instructions, of its instructions, and of the lines of one of them, those of a lower number stand
+/// at an earlier place.
+pub fn lines_stand_in_order()
+    ensures micros { (design : Design) (i j : ℕ) (m n : Micro) → IsSound design
+        → slice_get (micros_in design) i ≡ Some m → slice_get (micros_in design) j ≡ Some n
+        → m.line < n.line ↔ i < j }
+    ensures instrs { (design : Design) (i j : ℕ) (one other : Instr) → IsSound design
+        → slice_get design.instrs i ≡ Some one → slice_get design.instrs j ≡ Some other
+        → one.line < other.line ↔ i < j }
+    ensures own { (design : Design) (instr : Instr) (i j : ℕ) (m n : Micro) → IsSound design
+        → Contains design.instrs instr
+        → slice_get instr.micros i ≡ Some m → slice_get instr.micros j ≡ Some n
+        → m.line < n.line ↔ i < j }
+{}
+
+/// An operand comes from the line that makes it, or from where that line's operands come. The maker of a local is the line of its place
+/// among those that make one, where that stands in the stage.
+pub fn operands_come_from_makers()
+    ensures reaches { (instr : Instr) (stage : ℕ) (a : Arg) (source : Micro)
+        → Reaches instr stage a source
+        ↔ IsMadeBy instr stage a source (λ m. Any (λ b. Reaches instr stage b source) (operands_of m.act)) }
+    ensures wired { (instr : Instr) (stage : ℕ) (a : Arg) (source : Micro)
+        → IsWiredFrom instr stage a source
+        ↔ IsMadeBy instr stage a source
+        (λ m. IsTrue (is_wiring m.act) × Any (λ b. IsWiredFrom instr stage b source) (operands_of m.act)) }
+    ensures maker { (instr : Instr) (stage i : ℕ) (m : Micro) → maker_in instr stage (arg.Local i) ≡ Some m
+        ↔ ((slice_get (makers instr) i ≡ Some m) × (m.stage ≡ stage)) }
+{}
+
 /// The words of a clean design are without fault.
 #[tactic(auto, using(crate::proofs::Encoded::encoded_if_clean))]
 pub fn clean_is_encoded()
     ensures { (design : Design) → IsClean design → IsEncoded design }
+{}
+
+/// In a sound design the fixed value of an instruction lies in its mask, and the mask in the word. So two patterns that agree where both
+/// fix bits share a word, and only such two do.
+pub fn agreeing_patterns_share_words()
+    ensures lies { (design : Design) (instr : Instr) → IsSound design → Contains design.instrs instr
+        → LiesInWord design.word instr }
+    ensures shares { (design : Design) (one other : Instr) → IsSound design
+        → Contains design.instrs one → Contains design.instrs other
+        → Agree one other ↔ ShareWord design.word one other }
 {}
 
 /// The text that is shown of a description reads as its statements, at the lines 1, 2 and so on, and they are a
