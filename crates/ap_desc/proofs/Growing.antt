@@ -32,7 +32,7 @@ IsSaidFirst before (s.Word bits) = all_said word_said before ≡ []
 IsSaidFirst before (s.Transfer stage slots) = (all_said branch_said before ≡ []) × (all_said slots_said before ≡ []) × (all_said_at transfer_line_said before ≡ [])
 IsSaidFirst before _ = Unit {0}
 
-none_said : {X : Type 0} (f : Numbered → Option X) (k : ℕ) → ((n : Numbered) → section n.statement < k → f n ≡ None) → (before : List Numbered) → Each (λ e. section e < k) (said_by before) → filter_map f before ≡ []
+pub none_said : {X : Type 0} (f : Numbered → Option X) (k : ℕ) → ((n : Numbered) → section n.statement < k → f n ≡ None) → (before : List Numbered) → Each (λ e. section e < k) (said_by before) → filter_map f before ≡ []
 none_said f k none [] each = refl
 none_said f k none (n ∷ before) each = simp (none n each.0) (none_said f k none before each.1)
 
@@ -142,7 +142,7 @@ widths_push design fields micros line stage (Some a) =
     fold_push (λ widths (m : Micro). widths ++ option_to_list (local_width design widths fields m.act)) [] micros (record { line = line; stage = stage; act = a })
 
 -- the scope of these declarations and instructions
-abbrev scope_of : List Card → Design → List Block → Scope
+abbrev pub scope_of : List Card → Design → List Block → Scope
 scope_of cards design blocks = record {
   design = design;
   instrs = map (λ (b : Block). b.name) blocks;
@@ -181,11 +181,11 @@ outer_grows cards design blocks n (s.Unit name kind width) outer none = rw (none
 outer_grows cards design blocks n (s.Format name fields) outer none = rw (none (omega arith)) refl
 outer_grows cards design blocks n _ outer none = absurd cc
 
-below_ten : (before : List Statement) (statement : Statement) → section statement < 10 → Each (λ e. section e ≤ section statement) before → Each (λ e. section e < 10) before
+pub below_ten : (before : List Statement) (statement : Statement) → section statement < 10 → Each (λ e. section e ≤ section statement) before → Each (λ e. section e < 10) before
 below_ten [] statement low each = tt
 below_ten (e ∷ before) statement low each = (let up : section e ≤ section statement = each.0 in omega arith, below_ten before statement low each.1)
 
-micro_section : (statement : Statement) → is_micro statement ≡ true → section statement ≡ 10
+pub micro_section : (statement : Statement) → is_micro statement ≡ true → section statement ≡ 10
 micro_section statement micro = eqb-true (section statement) 10 (and_parts (section statement == 10) _ (and_parts _ _ micro).0).0
 
 pub scope_grows : (statements : List Numbered) (cards : List Card) (before : List Numbered) (n : Numbered) (after : List Numbered) → IsDescription statements → statements ≡ before ++ n ∷ after

@@ -20,6 +20,7 @@ pub mod Listed
 pub mod LocalWidths
 pub mod Loops
 pub mod Members
+pub mod Named
 pub mod NotSpelled
 pub mod PartFits
 pub mod Patterns
@@ -28,5 +29,14 @@ pub mod ReadOnce
 pub mod Renumbered
 pub mod ShownLines
 pub mod ShownTokens
+pub mod SoundBlocks
+pub mod SoundDesign
+pub mod SoundInstrs
+pub mod SoundLines
+pub mod SoundNames
+pub mod SoundOrder
+pub mod SoundParts
+pub mod SoundWidths
+pub mod Splits
 pub mod TokenValues
 pub mod WordForms

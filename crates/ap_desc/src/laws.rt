@@ -16,6 +16,7 @@ ghost use Rattle.ap_desc.specs.Order.{section};
 ghost use Rattle.ap_desc.specs.Ports.{micros_in};
 ghost use Rattle.ap_desc.specs.Reading.{ReadsAs};
 ghost use Rattle.ap_desc.specs.Scope.{scope_after, scope_with, with_declared};
+ghost use Rattle.ap_desc.specs.Shelf.{IsOfCards};
 ghost use Rattle.ap_desc.specs.Shown.{renumbered, shown_text};
 ghost use Rattle.ap_desc.specs.Sound.{IsEncoded, IsSound};
 ghost use Rattle.ap_desc.specs.Spelling.{Spells};
@@ -83,6 +84,16 @@ pub fn loops_and_orders()
     ensures order { (design : Design) (stage : ℕ) (order : List Node) → IsChainOrder design stage order → IsLooped design stage (λ n. true) → ⊥ }
     ensures closed { (design : Design) (stage line : ℕ) → ClosesLoop design stage line → IsLooped design stage (λ n. true) }
     ensures line { (design : Design) (stage line other : ℕ) → ClosesLoop design stage line → ClosesLoop design stage other → line ≡ other }
+{}
+
+/// A description without fault of names and widths describes a sound design, and it is of the cards.
+pub fn faultless_descriptions_are_sound()
+    ensures sound { (statements : List Numbered) (cards : List Card) → IsDescription statements
+        → HoldsNowhere (HasStatementFault statements cards)
+        → IsSound (design_of statements cards) }
+    ensures of_cards { (statements : List Numbered) (cards : List Card) → IsDescription statements
+        → HoldsNowhere (HasStatementFault statements cards)
+        → IsOfCards (design_of statements cards) cards }
 {}
 
 /// What the lines before a line of an instruction declare is what the whole description declares. One more line adds what it declares,

@@ -7,7 +7,7 @@ use Rattle.std.proofs.Math.Pow.{shl_exact}
 use Rattle.std.specs.List.{list_all}
 use Rattle.std.specs.Option.{option_map_or}
 use Rattle.ap_bits.specs.Operations.{sign_extended}
-use Rattle.ap_desc.specs.Designs.{field_value, is_width, is_between}
+use Rattle.ap_desc.specs.Designs.{field_value, is_width, is_between, fields_of}
 use Rattle.ap_desc.specs.Widths.{differs, has_bad_width, has_widths, is_bad_slice, is_no_target, is_not_one_bit, is_wide_constant, unit_width}
 use Rattle.ap_desc.specs.declared.design.Design.{Design}
 use Rattle.ap_desc.specs.declared.design.Unit.{Unit as Resource}
@@ -16,7 +16,7 @@ use Rattle.ap_desc.specs.declared.design.Arg.{Arg}
 use Rattle.ap_desc.specs.declared.design.Arg.TheVariants as arg
 use Rattle.ap_desc.specs.declared.design.Act.{Act}
 use Rattle.ap_desc.specs.declared.design.Act.TheVariants as act
-use Rattle.ap_model.specs.Fire.{Sight, arg_value, bits_of_arg, fields_of}
+use Rattle.ap_model.specs.Fire.{Sight, arg_value, bits_of_arg}
 use Rattle.ap_model.specs.Fitting.{LocalsFit, SightFits}
 
 -- a value below 2^64 without its lowest 64 bits or more

@@ -7,7 +7,8 @@ use Rattle.std.specs.List.{AllByRecursion as Each, list_any, cons_option}
 use Rattle.std.specs.Option.{option_map_or}
 use Rattle.ap_bits.specs.declared.card.Card.{Card}
 use Rattle.ap_desc.specs.Clean.{FitsCards}
-use Rattle.ap_desc.specs.Designs.{IsInstr, IsRight, local_width, width_at}
+use Rattle.ap_desc.proofs.DesignLaws.{locals_by_lines}
+use Rattle.ap_desc.specs.Designs.{IsInstr, IsRight, local_width, width_at, fields_of}
 use Rattle.ap_desc.specs.Sound.{IsTyped, are_lines_typed}
 use Rattle.ap_desc.specs.StageFaults.{has_stage_order, has_stage_zero, steps_back}
 use Rattle.ap_desc.specs.Widths.{has_widths}
@@ -20,7 +21,7 @@ use Rattle.ap_desc.specs.declared.design.Format.{Format}
 use Rattle.ap_desc.specs.declared.design.Instr.{Instr}
 use Rattle.ap_desc.specs.declared.design.Micro.{Micro}
 use Rattle.ap_desc.specs.declared.fault.Fault.TheVariants as f
-use Rattle.ap_model.specs.Fire.{Sight, act_value, arg_value, bits_of_arg, fields_of, instr_of, is_match, lines_in, locals_after}
+use Rattle.ap_model.specs.Fire.{Sight, act_value, arg_value, bits_of_arg, instr_of, is_match, lines_in, locals_after}
 use Rattle.ap_model.specs.Runnable.{IsRunnable, NeverFall, NoneInZero}
 use Rattle.ap_model.specs.Fitting.{LocalsFit, LocalsStand, assigned_width, width_of_act, IsGood, GoesByLine, locals_after_line}
 use Rattle.ap_model.proofs.PlainWidths.{list_all_get}
@@ -312,7 +313,7 @@ reached_some sight stage start i locals m v good reached at on some fits =
     let step : locals_after sight locals (m ∷ rest) ≡ locals_after sight (locals ++ v ∷ []) rest = ap (λ o. locals_after sight (locals ++ option_to_list o) rest) some in
     let so_far : counted width (take i micros) ≡ length locals = sym (counted_to width stage micros i m good.order at (eqb-true m.stage stage on)) ∙ sym reached.count in
     let place : slice_get sight.instr.locals (length locals) ≡ Some (width_of_act sight m.act) =
-    ap (λ ws. slice_get ws (length locals)) good.right.locals ∙ ap (slice_get (filter_map width micros)) (sym so_far) ∙ at_place width micros i m (width_of_act sight m.act) at assigned in
+    ap (λ ws. slice_get ws (length locals)) (locals_by_lines sight.design (fields_of sight.design sight.instr) sight.instr good.right) ∙ ap (slice_get (filter_map width micros)) (sym so_far) ∙ at_place width micros i m (width_of_act sight m.act) at assigned in
     let limit : width_at (λ w. w) sight.instr.locals (length locals) ≡ width_of_act sight m.act = ap (λ o. option_map_or (λ w. w) o 0) place in
     record {
       same = sym step ∙ ap (locals_after sight locals) (sym lines) ∙ reached.same;

@@ -6,10 +6,9 @@ use Rattle.std.specs.Option.{option_map_or}
 use Rattle.ap_bits.specs.Operations.{sign_extended}
 use Rattle.ap_bits.specs.Cards.{operation_value}
 use Rattle.ap_bits.specs.declared.card.Card.{Card}
-use Rattle.ap_desc.specs.Designs.{field_value, arg_width}
+use Rattle.ap_desc.specs.Designs.{field_value, arg_width, fields_of}
 use Rattle.ap_desc.specs.declared.design.Design.{Design}
 use Rattle.ap_desc.specs.declared.design.Unit.{Unit as Resource}
-use Rattle.ap_desc.specs.declared.design.Format.{Format}
 use Rattle.ap_desc.specs.declared.design.Field.{Field}
 use Rattle.ap_desc.specs.declared.design.Instr.{Instr}
 use Rattle.ap_desc.specs.declared.design.Micro.{Micro}
@@ -32,10 +31,6 @@ is_match word instr = bit_and word instr.fixed_mask == instr.fixed_value
 -- the instruction that a word matches; nothing where it matches none
 unfoldable pub instr_of : Design → ℕ → Option Instr
 instr_of design word = find (is_match word) design.instrs
-
--- the fields of an instruction's format
-abbrev pub fields_of : Design → Instr → List Field
-fields_of design instr = option_map_or (λ (f : Format). f.fields) (slice_get design.formats instr.format) []
 
 -- the lines of an instruction that stand in a stage
 abbrev pub lines_in : ℕ → Instr → List Micro

@@ -2,7 +2,7 @@
 use Rattle.std.specs.List.{AllByRecursion as Each}
 use Rattle.std.specs.Prelude.{ℕ, ◌+◌, ◌-◌, ◌==◌, ◌++◌, if◌then◌else◌, IfSome, option_to_list, ◌<◌, ◌^◌, ◌≡◌, nat_lt, ◌≤◌, IsTrue, [], ◌∷◌, List, length, filter, filter_map, Option, Some, slice_index, unwrap_or}
 use Rattle.ap_model.specs.Runnable.{IsRunnable, NeverFall, NoneInZero}
-use Rattle.ap_desc.specs.Designs.{IsInstr, local_width, width_at}
+use Rattle.ap_desc.specs.Designs.{IsInstr, local_width, width_at, fields_of}
 use Rattle.ap_desc.specs.Sound.{are_lines_typed}
 use Rattle.ap_desc.specs.Widths.{reg_width, file_width, mem_width}
 use Rattle.ap_desc.specs.declared.design.Design.{Design}
@@ -18,7 +18,7 @@ use Rattle.ap_model.specs.declared.storage.PortWrite.{PortWrite}
 use Rattle.ap_model.specs.declared.storage.WritePort.{WritePort}
 use Rattle.ap_model.specs.declared.storage.WritePort.TheVariants as port
 use Rattle.ap_model.specs.declared.storage.Storages.{Storages}
-use Rattle.ap_model.specs.Fire.{Sight, act_value, arg_value, fields_of, instr_of}
+use Rattle.ap_model.specs.Fire.{Sight, act_value, arg_value, instr_of}
 use Rattle.ap_model.specs.Stored.{reg_value, file_cell_value, word_value}
 
 -- each local fits its width, and one that isn't there yet is 0

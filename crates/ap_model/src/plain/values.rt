@@ -2,10 +2,10 @@
 ghost use Rattle.std.specs.Prelude.{◌≡◌, ℕ, ◌+◌, ◌-◌, ◌*◌, ◌≤◌, ◌/◌, ◌%◌, ◌^◌, ◌<◌, [], IsTrue, IfSome, slice_get, slice_index, slice_index_or};
 ghost use Rattle.std.specs.Option.{option_map_or};
 ghost use Rattle.ap_bits.specs.Operations.{sign_extended};
-ghost use Rattle.ap_desc.specs.Designs.{arg_width, field_value, local_width};
+ghost use Rattle.ap_desc.specs.Designs.{arg_width, field_value, local_width, fields_of};
 ghost use Rattle.ap_desc.specs.declared.design.Field.{Field};
 ghost use Rattle.ap_desc.specs.Widths.{has_widths, unit_width};
-ghost use Rattle.ap_model.specs.Fire.{act_value, arg_value, bits_of_arg, fields_of, link_of, unit_value};
+ghost use Rattle.ap_model.specs.Fire.{act_value, arg_value, bits_of_arg, link_of, unit_value};
 ghost use Rattle.ap_model.specs.Fitting.{LocalsFit, SightFits, width_of_act};
 ghost use Rattle.ap_model.specs.PlainViews.{HasWidths, operand_bits, sight_of, operand_value};
 
