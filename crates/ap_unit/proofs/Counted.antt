@@ -5,6 +5,7 @@ use Rattle.std.proofs.Math.Nat.{mod-eq_of_lt}
 use Rattle.std.proofs.lemmas.Bool.{cases_lt, lt-ltb, le-ltb, ne_eqb}
 use Rattle.ap_unit.specs.Ages.{UnitInput, age_after, age_at, IsHeld}
 use Rattle.ap_unit.specs.Methods.{State, Method, after_steps, shown_of}
+use Rattle.ap_unit.proofs.TopBits.{bit_cases}
 
 -- whether steps are left, as one bit
 abbrev pub left_of : ℕ → ℕ → ℕ
@@ -47,11 +48,6 @@ counts_on w k age room =
     let same : min age w ≡ min (age + 1) w = omega arith in
     rw (left_none w (min age w) whole) same)
     (cases_lt age w)
-
-bit_cases : (n : ℕ) → n < 2 → (n ≡ 0) ⊎ (n ≡ 1)
-bit_cases zero h = inl refl
-bit_cases (suc zero) h = inr refl
-bit_cases (suc (suc n)) h = absurd (omega arith)
 
 -- after a cycle, too, the counter holds the age up to w
 age_goes : (w k age go adv count count' : ℕ) → w < 2 ^ k → go < 2 → count ≡ min age w → count' ≡ (if adv == 1 then 0 else (if go == 1 then counted w k count else 0))

@@ -11,3 +11,4 @@ pub mod StepNets
 pub mod Stepped
 pub mod StepNames
 pub mod Ended
+pub mod TopBits
