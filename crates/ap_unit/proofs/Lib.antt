@@ -5,3 +5,10 @@ pub mod Laws
 pub mod Walked
 pub mod PlainNames
 pub mod Reversed
+pub mod Counted
+pub mod Begun
+pub mod StepNets
+pub mod Stepped
+pub mod StepNames
+pub mod Ended
+pub mod TopBits

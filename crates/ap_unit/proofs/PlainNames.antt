@@ -50,17 +50,17 @@ are_digits-decimal = decimal_by_steps (λ m ds. are_digits ds ≡ true)
     each (d ∷ ds) h = h
 
 -- a name that isn't n and digits isn't one of those of fresh wires
-IsNotNumbered-other : (name : List ℕ) → is_lettered 110 name ≡ false → IsNotNumbered name
+pub IsNotNumbered-other : (name : List ℕ) → is_lettered 110 name ≡ false → IsNotNumbered name
 IsNotNumbered-other name h k small e =
     let yes : is_lettered 110 (numbered k) ≡ true = are_digits-decimal k small in
     let clash : is_lettered 110 (numbered k) ≡ false = sym (ap (is_lettered 110) e) ∙ h in cc
 
-get_left : {X : Type 0} (xs ys : List X) (i : ℕ) (x : X) → slice_get xs i ≡ Some x → slice_get (xs ++ ys) i ≡ Some x
+pub get_left : {X : Type 0} (xs ys : List X) (i : ℕ) (x : X) → slice_get xs i ≡ Some x → slice_get (xs ++ ys) i ≡ Some x
 get_left [] ys i x h = cc
 get_left (y ∷ xs) ys zero x h = h
 get_left (y ∷ xs) ys (suc i) x h = get_left xs ys i x h
 
-get_right : {X : Type 0} (xs ys : List X) (n : ℕ) → slice_get (xs ++ ys) (length xs + n) ≡ slice_get ys n
+pub get_right : {X : Type 0} (xs ys : List X) (n : ℕ) → slice_get (xs ++ ys) (length xs + n) ≡ slice_get ys n
 get_right [] ys n = rw zero-add refl
 get_right (x ∷ xs) ys n = let e : suc (length xs) + n ≡ suc (length xs + n) = omega arith in rw e (get_right xs ys n)
 
@@ -80,7 +80,7 @@ each_back P [] ys h = h
 each_back P (x ∷ xs) ys h = each_back P xs ys h.1
 
 -- a net has no name that is new
-not_new : (instances : List Instance) (nets : List ModuleNet) (name : List ℕ) (n : ℕ) (net : ModuleNet) → IsNew name (names_taken instances nets) → slice_get nets n ≡ Some net → net.name ≢ name
+pub not_new : (instances : List Instance) (nets : List ModuleNet) (name : List ℕ) (n : ℕ) (net : ModuleNet) → IsNew name (names_taken instances nets) → slice_get nets n ≡ Some net → net.name ≢ name
 not_new instances nets name n net new at = not_there name nets n net (each_back (λ other. other ≢ name) (map (λ (i : Instance). i.name) instances) (taken_names nets) new).1.1 at
 
 module _ (old new : Draft) (s w : ℕ) (made : Makes (with_inputs old.name s w) old) (nets : new.nets ≡ old.nets ++ output_net (codes "y") w ∷ [])

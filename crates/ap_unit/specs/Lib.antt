@@ -7,6 +7,8 @@ pub mod Pieces
 pub mod Kinds
 pub mod Shelves
 pub mod Faults
+pub mod Methods
+pub mod Stepping
 pub mod Rows
 pub mod Named
 pub mod Example

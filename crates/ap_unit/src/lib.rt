@@ -10,11 +10,13 @@ pub mod dependence;
 pub mod kind;
 pub mod pieces;
 pub mod shelf;
+pub mod stepper;
 
 pub use dependence::walks_miss_them;
 pub use kind::UnitKind;
 pub use pieces::{Inputs, declare_inputs, show_result};
 pub use shelf::{Shelf, ShelfFault};
+pub use stepper::{Pair, Stepper, begin_steps, end_steps, state_before};
 
 #[cfg(test)]
 mod example;

@@ -1,0 +1,243 @@
+-- A draft of the beginning, the cells of a step, and what the registers take is a unit that makes a step a cycle.
+use Rattle.std.proofs.Common.{◌≡◌, ◌≢◌, ℕ, suc, zero, ◌+◌, ◌-◌, ◌%◌, ◌^◌, ◌<◌, ◌≤◌, List, [], ◌∷◌, ◌++◌, length, map, Some, true, false, refl, sym, ap, subst, ◌∙◌, arith}
+use Rattle.std.specs.Prelude.{slice_get, codes, nat_lt, bit_and, ◌==◌, ◌↔◌, if◌then◌else◌}
+use Rattle.std.specs.List.{AllByRecursion as Each}
+use Rattle.std.proofs.lemmas.Option.{slice_get_within}
+use Rattle.ap_bits.specs.declared.card.Card.{Card}
+use Rattle.ap_bits.specs.declared.card.Latency.{Latency}
+use Rattle.ap_bits.specs.declared.card.Latency.TheVariants.{WidthPlusOne}
+use Rattle.ap_bits.specs.Cards.{select_width, latency_at, cycles_at}
+use Rattle.ap_net.specs.declared.cell.Wire.{Wire}
+use Rattle.ap_net.specs.declared.net.Role.TheVariants as role
+use Rattle.ap_net.specs.declared.net.ModuleNet.{ModuleNet}
+use Rattle.ap_net.specs.declared.net.Port.{Port}
+use Rattle.ap_net.specs.declared.net.Next.{Next}
+use Rattle.ap_net.specs.Cells.{widths_of}
+use Rattle.ap_net.specs.Wiring.{IsDriven, Unclocked, Ranked, reset_of, Settles}
+use Rattle.ap_net.specs.Draft.{Draft, Adds, Makes, SettlesDraft}
+use Rattle.ap_net.specs.Modules.{ModuleText, IsModule, nets_of, nets_among, ports_among, reset_at, reset_value, next_placed, instance_placed}
+use Rattle.ap_net.specs.Finished.{IsFinished}
+use Rattle.ap_net.proofs.Laws.{Makes-trans, net-Adds, Settles-before}
+use Rattle.ap_unit.specs.declared.stepper.Pair.{Pair}
+use Rattle.ap_unit.specs.declared.stepper.Stepper.{Stepper}
+use Rattle.ap_unit.specs.Cards.{operation_value}
+use Rattle.ap_unit.specs.Ages.{UnitInput, age_at, IsHeld, AreProper}
+use Rattle.ap_unit.specs.Depends.{DependsOnNone}
+use Rattle.ap_unit.specs.Units.{ComputesInCycles, Behaves, ports_by, input_of, RunsAlone, ShowsAge}
+use Rattle.ap_unit.specs.Built.{IsUnitDraft}
+use Rattle.ap_unit.specs.Pieces.{input_net, output_net}
+use Rattle.ap_unit.specs.Methods.{State, Method, Reaches, shown_of, after_steps}
+use Rattle.ap_unit.specs.Stepping.{register_net, step_nets, with_stepper, step_wires, step_nexts, state_of, state_before, kept_state, next_count, MakesStep}
+use Rattle.ap_unit.proofs.Placed.{place_is}
+use Rattle.ap_unit.proofs.Counted.{Cycle, left_of, counted, before, busy_shown, value_shown}
+use Rattle.ap_unit.proofs.StepNets.{stepper_driven, step_register, stepper_below, IsStepRegister, counter, high, low, rank_by, grown_ranked, ranked_closed}
+
+-- ranks by which busy comes before all but go and the counter, and y before all but sel and the state
+abbrev busy_ranks : List ℕ
+busy_ranks = 3 ∷ 3 ∷ 3 ∷ 0 ∷ 3 ∷ 2 ∷ 4 ∷ 0 ∷ 3 ∷ 3 ∷ 0 ∷ 1 ∷ []
+
+abbrev value_ranks : List ℕ
+value_ranks = 0 ∷ 2 ∷ 2 ∷ 2 ∷ 2 ∷ 4 ∷ 1 ∷ 2 ∷ 0 ∷ 0 ∷ 2 ∷ 3 ∷ []
+
+small_busy : Each (λ r. r < 12) busy_ranks
+small_busy = (omega arith, (omega arith, (omega arith, (omega arith, (omega arith, (omega arith, (omega arith, (omega arith, (omega arith, (omega arith, (omega arith, (omega arith, tt))))))))))))
+
+small_value : Each (λ r. r < 12) value_ranks
+small_value = (omega arith, (omega arith, (omega arith, (omega arith, (omega arith, (omega arith, (omega arith, (omega arith, (omega arith, (omega arith, (omega arith, (omega arith, tt))))))))))))
+
+busy_ranked : (name : List ℕ) (w k : ℕ) → Ranked (rank_by busy_ranks) (with_stepper name w k).assigns
+busy_ranked name w k = (tt, ((omega arith, (omega arith, tt)), ((omega arith, (omega arith, tt)), ((omega arith, (omega arith, (omega arith, tt))), tt))))
+
+value_ranked : (name : List ℕ) (w k : ℕ) → Ranked (rank_by value_ranks) (with_stepper name w k).assigns
+value_ranked name w k = (tt, ((omega arith, (omega arith, tt)), ((omega arith, (omega arith, tt)), ((omega arith, (omega arith, (omega arith, tt))), tt))))
+
+some_at : {X : Type 0} (xs : List X) (n : ℕ) → n < length xs → (x : X) × (slice_get xs n ≡ Some x)
+some_at [] n h = absurd (omega arith)
+some_at (x ∷ xs) zero h = (x, refl)
+some_at (x ∷ xs) (suc n) h = some_at xs n (omega arith)
+
+-- what the registers take
+abbrev pub ended : Draft → ℕ → ℕ → Wire → Pair → Draft
+ended last w k count state = record last { nexts = step_nexts (step_wires w k) count state }
+
+pub its_register : (old last : Draft) (w k : ℕ) → Makes (with_stepper old.name w k) last → (n : ℕ) (net : ModuleNet) → slice_get last.nets n ≡ Some net → net.role ≡ role.Register (reset_of net.role) → IsStepRegister w k n net
+its_register old last w k all n net at is =
+    let lt : n < 10 = all.closes.registers 10 (stepper_below w k) n net at is in
+    let x = some_at (step_nets w k) n (omega arith) in
+    let here : slice_get last.nets n ≡ Some x.0 = net-Adds (with_stepper old.name w k) last n x.0 all.adds x.1 in
+    let same : x.0 ≡ net = cc in
+    step_register w k n net (x.1 ∙ ap Some same) is
+
+module _ (old last : Draft) (w k : ℕ) (next state : Pair) (count : Wire) (room : w < 2 ^ k) (some : 1 ≤ w)
+    (begins : Makes (with_stepper old.name w k) old) (makes : Makes old last)
+    (counts : (read : ℕ → ℕ) → SettlesDraft last read → read count.number ≡ next_count (step_wires w k) read)
+    (keeps : (read : ℕ → ℕ) → SettlesDraft last read → state_of read state ≡ kept_state (step_wires w k) read next) where
+  all : Makes (with_stepper old.name w k) last
+  all = Makes-trans (with_stepper old.name w k) old last begins makes
+
+  there : (n : ℕ) (net : ModuleNet) → slice_get (step_nets w k) n ≡ Some net → slice_get last.nets n ≡ Some net
+  there n net at = net-Adds (with_stepper old.name w k) last n net all.adds at
+
+  -- every wire, output and register is driven
+  clocked : (n : ℕ) (net : ModuleNet) → IsStepRegister w k n net → Unclocked (step_nexts (step_wires w k) count state) n → ⊥
+  clocked n net counter none = none.0 refl
+  clocked n net high none = none.1.0 refl
+  clocked n net low none = none.1.1.0 refl
+
+  all_driven : IsDriven last.nets last.assigns (step_nexts (step_wires w k) count state) last.instances
+  all_driven = record {
+    driven = all.closes.driven (stepper_driven old.name w k);
+    clocked = λ n net at is none. clocked n net (its_register old last w k all n net at is) none;
+  }
+
+  its_ports : ports_among last.nets ≡ ports_by WidthPlusOne 1 w
+  its_ports = all.ports
+
+  module _ (m : ModuleText) (rules : IsModule m) (f : IsFinished (ended last w k count state) m) where
+    ports : m.ports ≡ ports_by WidthPlusOne 1 w
+    ports = f.ports ∙ its_ports
+
+    port_at : (p : ℕ) → slice_get (nets_of m) p ≡ slice_get (nets_among (ports_by WidthPlusOne 1 w) m.wires m.regs) p
+    port_at p = ap (λ (xs : List Port). slice_get (nets_among xs m.wires m.regs) p) ports
+
+    place_at : (p : ℕ) (x y : ModuleNet) → slice_get (step_nets w k) p ≡ Some x → slice_get (nets_among (ports_by WidthPlusOne 1 w) m.wires m.regs) p ≡ Some y → x.name ≡ y.name → f.place p ≡ p
+    place_at p x y at at' same = place_is (ended last w k count state) m f rules p p x y (there p x at) (port_at p ∙ at') same
+
+    at_sel : f.place 0 ≡ 0
+    at_sel = place_at 0 (input_net (codes "sel") 1) _ refl refl refl
+
+    at_a : f.place 1 ≡ 1
+    at_a = place_at 1 (input_net (codes "a") w) _ refl refl refl
+
+    at_b : f.place 2 ≡ 2
+    at_b = place_at 2 (input_net (codes "b") w) _ refl refl refl
+
+    at_go : f.place 3 ≡ 3
+    at_go = place_at 3 (input_net (codes "go") 1) _ refl refl refl
+
+    at_adv : f.place 4 ≡ 4
+    at_adv = place_at 4 (input_net (codes "adv") 1) _ refl refl refl
+
+    at_busy : f.place 5 ≡ 5
+    at_busy = place_at 5 (output_net (codes "busy") 1) _ refl refl refl
+
+    at_y : f.place 6 ≡ 6
+    at_y = place_at 6 (output_net (codes "y") w) _ refl refl refl
+
+    -- and back
+    back_at : (p : ℕ) (x : ModuleNet) → slice_get (step_nets w k) p ≡ Some x → f.place p ≡ p → f.back p ≡ p
+    back_at p x at here = ap f.back (sym here) ∙ f.returns p (slice_get_within last.nets p x (there p x at))
+
+    depends : (table : List ℕ) → Each (λ r. r < 12) table → Ranked (rank_by table) (with_stepper old.name w k).assigns → (bound n : ℕ) (others : List ℕ)
+        → nat_lt (rank_by table (f.back n)) bound ≡ true → Each (λ other. nat_lt (rank_by table (f.back other)) bound ≡ false) others → DependsOnNone m.assigns n others
+    depends table small first bound n others itself none =
+        let ranked = f.orders (rank_by table) (grown_ranked table small old.name w k last first all.adds.grows) in
+        ((λ k. nat_lt (rank_by table (f.back k)) bound), record { itself = itself; closed = ranked_closed (λ k. rank_by table (f.back k)) bound m.assigns ranked }, none)
+
+    -- by a table a port's rank is that of its number
+    by_table : (table : List ℕ) (bound p : ℕ) (x : ModuleNet) → slice_get (step_nets w k) p ≡ Some x → f.place p ≡ p → nat_lt (rank_by table (f.back p)) bound ≡ nat_lt (rank_by table p) bound
+    by_table table bound p x at here = ap (λ n. nat_lt (rank_by table n) bound) (back_at p x at here)
+
+    busy_depends : DependsOnNone m.assigns 5 (0 ∷ 1 ∷ 2 ∷ 4 ∷ [])
+    busy_depends = depends busy_ranks small_busy (busy_ranked old.name w k) 3 5 (0 ∷ 1 ∷ 2 ∷ 4 ∷ []) (by_table busy_ranks 3 5 _ refl at_busy) (
+      by_table busy_ranks 3 0 _ refl at_sel,
+      (by_table busy_ranks 3 1 _ refl at_a, (by_table busy_ranks 3 2 _ refl at_b, (by_table busy_ranks 3 4 _ refl at_adv, tt))),
+    )
+
+    value_depends : DependsOnNone m.assigns 6 (4 ∷ [])
+    value_depends = depends value_ranks small_value (value_ranked old.name w k) 2 6 (4 ∷ []) (by_table value_ranks 2 6 _ refl at_y) (by_table value_ranks 2 4 _ refl at_adv, tt)
+
+    -- what a solution of the module gives
+    module _ (method : Method) (step : MakesStep old (step_wires w k) method next) (read : ℕ → ℕ) (settled : Settles (nets_of m) m.assigns read) where
+      at : ℕ → ℕ
+      at n = read (f.place n)
+
+      whole : SettlesDraft last (λ n. read (f.place n))
+      whole = f.settles read settled
+
+      first : SettlesDraft (with_stepper old.name w k) (λ n. read (f.place n))
+      first = Settles-before (with_stepper old.name w k) last (λ n. read (f.place n)) all.adds.extends whole
+
+      left : read (f.place 11) ≡ left_of w (read (f.place 7))
+      left = first.holds.1.0 ∙ ap (λ n. if nat_lt (read (f.place 7)) n then 1 else 0) first.holds.0
+
+      fits_a : read 1 < 2 ^ w
+      fits_a = subst (λ n. read n < 2 ^ w) at_a (first.fits 1 w refl)
+
+      fits_b : read 2 < 2 ^ w
+      fits_b = subst (λ n. read n < 2 ^ w) at_b (first.fits 2 w refl)
+
+      cycle : Cycle w k method (input_of read) (read (f.place 7)) (state_of (λ n. read (f.place n)) (step_wires w k).held) (read 5) (read 6) (read (f.place count.number)) (state_of (λ n. read (f.place n)) state)
+      cycle = record {
+        go = subst (λ n. read n < 2) at_go (first.fits 3 1 refl);
+        busy_is = ap read (sym at_busy) ∙ first.holds.1.1.0 ∙ (λ i. bit_and (read (at_go i)) (left i));
+        shown = ap read (sym at_y) ∙ first.holds.1.1.1.0 ∙ ap (λ n. if read n == 1 then read (f.place 8) else read (f.place 9)) at_sel;
+        count_is = counts (λ n. read (f.place n)) whole
+            ∙ (λ i. if read (at_adv i) == 1 then 0 else (if read (at_go i) == 1 then (if left i == 1 then (read (f.place 7) + 1) % 2 ^ k else read (f.place 7)) else 0));
+        held_is = keeps (λ n. read (f.place n)) whole
+            ∙ ap (λ (s : State). if read (f.place 11) == 1 then s else state_of (λ n. read (f.place n)) (step_wires w k).held) (step (λ n. read (f.place n)) (Settles-before old last (λ n. read (f.place n)) makes.adds.extends whole))
+            ∙ (λ i. if left i == 1 then method.step (read (at_a i)) (read (at_b i)) (if read (f.place 7) == 0 then method.start (read (at_a i)) (read (at_b i)) else state_of (λ n. read (f.place n)) (step_wires w k).held)
+            else state_of (λ n. read (f.place n)) (step_wires w k).held);
+      }
+
+    -- the run of a module's registers
+    reset_is : (n : ℕ) (x : ModuleNet) → slice_get (step_nets w k) n ≡ Some x → reset_at (nets_of m) (f.place n) ≡ reset_of x.role
+    reset_is n x here = ap reset_value (f.nets n (slice_get_within last.nets n x (there n x here)) ∙ there n x here)
+
+    its_nexts : m.nexts ≡ map (next_placed f.place) (step_nexts (step_wires w k) count state)
+    its_nexts = f.nexts
+
+    module _ (card : Card) (method : Method) (late : card.latency ≡ WidthPlusOne) (reaches : Reaches method card w) (step : MakesStep old (step_wires w k) method next)
+        (c : ℕ) (reads : ℕ → ℕ → ℕ) (run : RunsAlone m c reads) (proper : AreProper (length card.ops) (latency_at card w) (λ j. input_of (reads j)) c) where
+      latency : latency_at card w - 1 ≡ w
+      latency = let e : latency_at card w ≡ w + 1 = ap (λ l. cycles_at l w) late in omega arith
+
+      cycles : (j : ℕ) → j < c → Cycle w k method (input_of (reads j)) (reads j (f.place 7)) (state_of (λ n. reads j (f.place n)) (step_wires w k).held) (reads j 5) (reads j 6) (reads j (f.place count.number)) (state_of (λ n. reads j (f.place n)) state)
+      cycles j h = cycle method step (reads j) (run.solves j h)
+
+      starts : reads 0 (f.place 7) ≡ 0
+      starts =
+          let each = subst (Each (λ (x : Next). reads 0 x.register.number ≡ reset_at (nets_of m) x.register.number)) its_nexts run.starts in
+          each.0 ∙ reset_is 7 (register_net (codes "q0") k) refl
+
+      goes : (j : ℕ) → suc j < c → Each (λ (x : Next). reads (suc j) x.register.number ≡ reads j x.from.number) (map (next_placed f.place) (step_nexts (step_wires w k) count state))
+      goes j h =
+          let one : j + 1 ≡ suc j = omega arith in
+          subst (Each (λ (x : Next). reads (suc j) x.register.number ≡ reads j x.from.number)) its_nexts (subst (λ n. Each (λ (x : Next). reads n x.register.number ≡ reads j x.from.number) m.nexts) one (run.goes j (omega arith)))
+
+      states_go : (j : ℕ) → suc j < c → state_of (λ n. reads (suc j) (f.place n)) (step_wires w k).held ≡ state_of (λ n. reads j (f.place n)) state
+      states_go j h = let each = goes j h in (λ i. record { high = each.1.0 i; low = each.1.1.0 i })
+
+      held : (j : ℕ) → suc j < c → 0 < age_at (λ i. input_of (reads i)) (suc j) → IsHeld (input_of (reads j)) (input_of (reads (suc j)))
+      held j h old = let one : suc j - 1 ≡ j = omega arith in subst (λ n. IsHeld (input_of (reads n)) (input_of (reads (suc j)))) one ((proper (suc j) h).held old)
+
+      shows : (j : ℕ) → j < c → ShowsAge card w (age_at (λ i. input_of (reads i)) j) (reads j)
+      shows j h = record {
+        busy = subst (λ n. (reads j 5 ≡ 1) ↔ ((reads j 3 ≡ 1) × (age_at (λ i. input_of (reads i)) j < n))) (sym latency)
+            (busy_shown w k c method room some (λ i. input_of (reads i)) (λ i. reads i (f.place 7)) (λ i. reads i (f.place count.number)) (λ i. reads i 5) (λ i. reads i 6)
+            (λ i. state_of (λ n. reads i (f.place n)) (step_wires w k).held) (λ i. state_of (λ n. reads i (f.place n)) state) cycles starts (λ i l. (goes i l).0) states_go held j h);
+        value = λ asked old.
+            value_shown w k c method room some (λ i. input_of (reads i)) (λ i. reads i (f.place 7)) (λ i. reads i (f.place count.number)) (λ i. reads i 5) (λ i. reads i 6)
+            (λ i. state_of (λ n. reads i (f.place n)) (step_wires w k).held) (λ i. state_of (λ n. reads i (f.place n)) state) cycles starts (λ i l. (goes i l).0) states_go held j h (subst (λ n. n ≤ age_at (λ i. input_of (reads i)) j) latency old)
+            ∙ reaches (reads j 0) (reads j 1) (reads j 2) ((proper j h).chosen asked) (fits_a method step (reads j) (run.solves j h)) (fits_b method step (reads j) (run.solves j h));
+      }
+
+    in_cycles : (card : Card) (method : Method) → card.latency ≡ WidthPlusOne → Reaches method card w → MakesStep old (step_wires w k) method next → ComputesInCycles m card w
+    in_cycles card method late reaches step = record {
+      runs = λ c reads run proper j h. shows card method late reaches step c reads run proper j h;
+      busy = busy_depends;
+      value = value_depends;
+    }
+
+  -- what was made is a unit of each card whose values the method reaches
+  pub unit_of_steps : (card : Card) (method : Method) → card.latency ≡ WidthPlusOne → select_width card ≡ 1 → Reaches method card w → MakesStep old (step_wires w k) method next → IsUnitDraft (ended last w k count state) card w
+  unit_of_steps card method late select reaches step = record {
+    driven = all_driven;
+    port = rw its_ports (omega arith);
+    unit = λ m rules f. record {
+      ports = f.ports ∙ its_ports ∙ (λ i. ports_by (sym late i) (sym select i) w);
+      instances = f.instances ∙ ap (map (instance_placed f.place)) all.instances;
+      ordered = ((λ n. rank_by busy_ranks (f.back n)), f.orders (rank_by busy_ranks) (grown_ranked busy_ranks small_busy old.name w k last (busy_ranked old.name w k) all.adds.grows));
+      behaves = subst (λ (l : Latency). Behaves l m card w) (sym late) (in_cycles m rules f card method late reaches step);
+    };
+  }
