@@ -31,7 +31,8 @@ power_among cells (b ∷ bits) own e = elim (or_cases (nat_le cells (2 ^ b) && n
 ]
 
 power_of_cells : (cells : ℕ) → is_cell_count cells ≡ true → 2 ^ select_width_for cells ≡ cells
-power_of_cells cells e = power_among cells (1 ∷ 2 ∷ 3 ∷ 4 ∷ 5 ∷ 6 ∷ []) (refl, (refl, (refl, (refl, (refl, (refl, tt)))))) e
+power_of_cells cells e =
+    power_among cells (1 ∷ 2 ∷ 3 ∷ 4 ∷ 5 ∷ 6 ∷ []) (refl, (refl, (refl, (refl, (refl, (refl, tt)))))) (and_parts (is_between 2 64 cells) _ e).1
 
 pub bits_of_cells : (design : Design) (file : File) → IsSound design → Contains design.files file → 2 ^ index_bits file ≡ file.cells
 bits_of_cells design file sound there =

@@ -163,7 +163,7 @@ module _ (statements : List Numbered) (cards : List Card) (described : IsDescrip
     twice = or_parts (is_among name (map (λ (b : Block). b.name) (blocks_of before))) (not (are_distinct (field_names fixed))) (clear_form statements cards described none before n after (s.Instr name format fixed) parts form f.Twice)
 
     free : is_free_name name ≡ true
-    free = (and_parts (is_free_name name) _ (spelled_form statements cards described none before n after (s.Instr name format fixed) parts form).names).0
+    free = (and_parts (is_free_name name) _ (spelled_form statements cards described none before n after (s.Instr name format fixed) parts form).pieces).0
 
     count : suc (length (blocks_of before)) ≡ count_by is_instr (said_by (before ++ n ∷ []))
     count = let grown = count_push before n ∙ ap (λ x. count_by is_instr (said_by before) + cond (is_instr x) 1 0) form in let so_far = st.counted in omega arith

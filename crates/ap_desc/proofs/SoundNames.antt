@@ -10,7 +10,7 @@ use Rattle.ap_bits.specs.declared.card.Card.{Card}
 use Rattle.ap_desc.proofs.Growing.{declared_grows}
 use Rattle.ap_desc.proofs.InOrder.{said_by}
 use Rattle.ap_desc.proofs.Named.{distinct_with}
-use Rattle.ap_desc.proofs.SoundParts.{clear, fields_names, file_form, format_form, input_form, mem_form, reg_form, spelled_form, unit_form}
+use Rattle.ap_desc.proofs.SoundParts.{clear, fields_names, file_form, format_form, format_spelled, input_form, mem_form, reg_form, spelled_form, unit_form}
 use Rattle.ap_desc.proofs.Splits.{each_append, each_said, grow}
 use Rattle.ap_desc.specs.Declarations.{declarations, fields_said, file_said, format_said, input_said, mem_said, reg_said, unit_said}
 use Rattle.ap_desc.specs.Descriptions.{IsDescription}
@@ -45,10 +45,6 @@ each_map P g (x ∷ xs) each = (each.0, each_map P g xs each.1)
 each_flat : {X Y : Type 0} (P : Y → Type 0) (g : X → List Y) (xs : List X) → Each (λ x. Each P (g x)) xs → Each P (flat_map g xs)
 each_flat P g [] each = tt
 each_flat P g (x ∷ xs) each = each_append P (g x) (flat_map g xs) each.0 (each_flat P g xs each.1)
-
-all_each : {X : Type 0} (test : X → Bool) (xs : List X) → list_all test xs ≡ true → Each (λ x. test x ≡ true) xs
-all_each test [] e = tt
-all_each test (x ∷ xs) e = let parts = and_parts (test x) (list_all test xs) e in (parts.0, all_each test xs parts.1)
 
 -- one more name in the middle
 insert_at : (old new xs ys : List (List ℕ)) (name : List ℕ) → old ≡ xs ++ ys → new ≡ xs ++ name ∷ ys → are_distinct old ≡ true → is_among name old ≡ false → are_distinct new ≡ true
@@ -127,34 +123,30 @@ module _ (statements : List Numbered) (cards : List Card) (described : IsDescrip
       subst (λ d. are_distinct (format_names d) ≡ true) (sym (declared_grows statements cards before n after described parts))
       (formats_push cards (scope_after before cards) n.line n.statement once (clear statements cards described none before n after parts f.Twice))) refl
 
-  first_free : (before : List Numbered) (n : Numbered) (after : List Numbered) (statement : Statement) (name : List ℕ) (names : List (List ℕ)) → statements ≡ before ++ n ∷ after → n.statement ≡ statement
-      → (list_all is_free_name (name ∷ names) ≡ true) → is_free_name name ≡ true
-  first_free before n after statement name names parts form e = (and_parts (is_free_name name) (list_all is_free_name names) e).0
-
   pub free_parts : Each (λ name. is_free_name name ≡ true) (names_of_parts all)
   free_parts = each_append _ (reg_names all ++ file_names all ++ mem_names all ++ input_names all) (unit_names all)
       (each_append _ (reg_names all ++ file_names all ++ mem_names all) (input_names all)
       (each_append _ (reg_names all ++ file_names all) (mem_names all) (each_append _ (reg_names all) (file_names all) regs files) mems) inputs) units where
         regs : Each (λ name. is_free_name name ≡ true) (reg_names all)
         regs = each_map (λ name. is_free_name name ≡ true) (λ (x : Reg). x.name) all.regs (each_said (λ (n : Numbered). reg_said n.statement) (λ (x : Reg). is_free_name x.name ≡ true) statements (λ before n after x parts says.
-            (and_parts (is_free_name x.name) true (spelled_form statements cards described none before n after (s.Reg x.name x.width x.reset) parts (reg_form n.statement x says)).names).0))
+            (and_parts (is_free_name x.name) _ (spelled_form statements cards described none before n after (s.Reg x.name x.width x.reset) parts (reg_form n.statement x says)).pieces).0))
 
         files : Each (λ name. is_free_name name ≡ true) (file_names all)
         files = each_map (λ name. is_free_name name ≡ true) (λ (x : File). x.name) all.files (each_said (λ (n : Numbered). file_said n.statement) (λ (x : File). is_free_name x.name ≡ true) statements (λ before n after x parts says.
-            (and_parts (is_free_name x.name) true (spelled_form statements cards described none before n after (s.File x.name x.width x.cells x.reads x.writes) parts (file_form n.statement x says)).names).0))
+            (and_parts (is_free_name x.name) _ (spelled_form statements cards described none before n after (s.File x.name x.width x.cells x.reads x.writes) parts (file_form n.statement x says)).pieces).0))
 
         mems : Each (λ name. is_free_name name ≡ true) (mem_names all)
         mems = each_map (λ name. is_free_name name ≡ true) (λ (x : Mem). x.name) all.mems (each_said (λ (n : Numbered). mem_said n.statement) (λ (x : Mem). is_free_name x.name ≡ true) statements (λ before n after x parts says.
-            (and_parts (is_free_name x.name) true (spelled_form statements cards described none before n after (s.Mem x.name x.address x.width) parts (mem_form n.statement x says)).names).0))
+            (and_parts (is_free_name x.name) _ (spelled_form statements cards described none before n after (s.Mem x.name x.address x.width) parts (mem_form n.statement x says)).pieces).0))
 
         inputs : Each (λ name. is_free_name name ≡ true) (input_names all)
         inputs = each_map (λ name. is_free_name name ≡ true) (λ (x : InPort). x.name) all.inputs (each_said (λ (n : Numbered). input_said n.statement) (λ (x : InPort). is_free_name x.name ≡ true) statements (λ before n after x parts says.
-            (and_parts (is_free_name x.name) true (spelled_form statements cards described none before n after (s.In x.name x.width) parts (input_form n.statement x says)).names).0))
+            (and_parts (is_free_name x.name) _ (spelled_form statements cards described none before n after (s.In x.name x.width) parts (input_form n.statement x says)).pieces).0))
 
         units : Each (λ name. is_free_name name ≡ true) (unit_names all)
         units = each_map (λ name. is_free_name name ≡ true) (λ (x : Resource). x.name) all.units (each_said (λ (n : Numbered). unit_said cards n.statement) (λ (x : Resource). is_free_name x.name ≡ true) statements (λ before n after x parts says.
             let (kind, form, place, latency) = unit_form cards n.statement x says in
-            (and_parts (is_free_name x.name) (list_all is_free_name (kind ∷ [])) (spelled_form statements cards described none before n after (s.Unit x.name kind x.width) parts form).names).0))
+            (and_parts (is_free_name x.name) _ (spelled_form statements cards described none before n after (s.Unit x.name kind x.width) parts form).pieces).0))
 
   pub free_formats : Each (λ name. is_free_name name ≡ true) (flat_map (λ (x : Format). x.name ∷ map (λ (y : Field). y.name) x.fields) all.formats)
   free_formats = each_flat (λ name. is_free_name name ≡ true) (λ (x : Format). x.name ∷ map (λ (y : Field). y.name) x.fields) all.formats
@@ -162,4 +154,4 @@ module _ (statements : List Numbered) (cards : List Card) (described : IsDescrip
       let (fields, form, are, line) = format_form n.line n.statement x says in
       let names : names_of_fields x.fields ≡ field_names fields = ap names_of_fields are ∙ fields_names fields in
       subst (λ ns. Each (λ name. is_free_name name ≡ true) (x.name ∷ ns)) (sym names)
-      (all_each is_free_name (x.name ∷ field_names fields) (spelled_form statements cards described none before n after (s.Format x.name fields) parts form).names)))
+      (format_spelled x.name fields (spelled_form statements cards described none before n after (s.Format x.name fields) parts form)).0))

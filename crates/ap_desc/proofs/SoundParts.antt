@@ -24,7 +24,7 @@ use Rattle.ap_desc.specs.Reserved.{is_among, is_free_name}
 use Rattle.ap_desc.specs.Scope.{scope_after, with_declared}
 use Rattle.ap_desc.specs.Shelf.{IsOfCard}
 use Rattle.ap_desc.specs.Sound.{are_distinct, names_of_parts}
-use Rattle.ap_desc.specs.Spelling.{IsSpellable, field_names, has_fields}
+use Rattle.ap_desc.specs.Spelling.{IsSpellable, are_free_fields, field_names, has_fields, is_small}
 use Rattle.ap_desc.specs.StatementFaults.{HasStatementFault, is_faulty}
 use Rattle.ap_desc.specs.declared.description.Numbered.{Numbered}
 use Rattle.ap_desc.specs.declared.design.Design.{Design}
@@ -153,6 +153,19 @@ fields_within word [] e = refl
 fields_within word (x ∷ fields) e =
     let parts = or_parts (not (is_field_width word x.number)) (list_any (λ (x : FieldNumber). not (is_field_width word x.number)) fields) e in
     and_from (is_field_width word x.number) _ (not-false (is_field_width word x.number) parts.0) (fields_within word fields parts.1)
+
+-- what the spelling of a format says of its names, and that it has a field
+pub free_fields : (fields : List FieldNumber) → are_free_fields fields ≡ true → Each (λ name. is_free_name name ≡ true) (field_names fields)
+free_fields [] e = tt
+free_fields (x ∷ fields) e =
+    let two = and_parts (is_free_name x.field && is_small x.number) (are_free_fields fields) e in
+    ((and_parts (is_free_name x.field) (is_small x.number) two.0).0, free_fields fields two.1)
+
+pub format_spelled : (name : List ℕ) (fields : List FieldNumber) → IsSpellable (s.Format name fields) → Each (λ n. is_free_name n ≡ true) (name ∷ field_names fields) × (has_fields fields ≡ true)
+format_spelled name fields spelled =
+    let two = and_parts (is_free_name name) ((has_fields fields && are_free_fields fields) && true) spelled.pieces in
+    let three = and_parts (has_fields fields) (are_free_fields fields) (and_parts (has_fields fields && are_free_fields fields) true two.1).0 in
+    ((two.0, free_fields fields three.1), three.0)
 
 some_field : (fields : List FieldNumber) → has_fields fields ≡ true → 1 ≤ length fields
 some_field [] e = absurd cc
@@ -317,7 +330,7 @@ module _ (statements : List Numbered) (cards : List Card) (described : IsDescrip
         let widths = subst (λ w. list_any (λ (y : FieldNumber). not (is_field_width w y.number)) fields ≡ false) known (clear_form before n after (s.Format x.name fields) parts form f.Range) in
         let few = (or_parts (section_count (said_by before) (s.Format x.name fields) == 32) (nat_lt 16 (length fields)) (few_form before n after (s.Format x.name fields) parts form)).1 in
         let most : length fields ≤ 16 = ltb-false 16 (length fields) few in
-        let least = some_field fields (spelled_form before n after (s.Format x.name fields) parts form).formed in
+        let least = some_field fields (format_spelled x.name fields (spelled_form before n after (s.Format x.name fields) parts form)).1 in
         let count = fields_length fields in
         subst (λ (ys : List Field). (is_between 1 16 (length ys) && list_all (λ (y : Field). is_field_width declared.word y.width) ys) ≡ true) (sym are)
         (and_from (is_between 1 16 (length (fields_said fields))) (list_all (λ (y : Field). is_field_width declared.word y.width) (fields_said fields))

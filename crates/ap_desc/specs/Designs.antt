@@ -4,6 +4,7 @@ use Rattle.std.specs.List.{list_all, list_any, flat_map, zip}
 use Rattle.std.specs.Option.{option_map_or}
 use Rattle.std.specs.Str.{bytes_eq}
 use Rattle.ap_bits.specs.Cards.{select_width_for}
+use Rattle.ap_desc.specs.Limits.{max_address_bits, max_cells, max_fields, max_files, max_formats, max_inputs, max_instructions, max_memories, max_memory_address_bits, max_micro_operations, max_read_ports, max_registers, max_slots, max_stages, max_units, max_width, max_word_bits, max_write_ports, min_address_bits, min_cells, min_stages, min_word_bits}
 use Rattle.ap_desc.specs.declared.design.Design.{Design}
 use Rattle.ap_desc.specs.declared.design.Reg.{Reg}
 use Rattle.ap_desc.specs.declared.design.File.{File}
@@ -27,41 +28,43 @@ Matches instr word = bit_and word instr.fixed_mask ≡ instr.fixed_value
 abbrev pub field_value : Field → ℕ → ℕ
 field_value field word = (word / 2 ^ field.low) % 2 ^ field.width
 
--- a number of bits that a value may have
-abbrev pub is_width : ℕ → Bool
-is_width width = nat_le 1 width && nat_le width 64
-
 -- the number lies between these two
 abbrev pub is_between : ℕ → ℕ → ℕ → Bool
 is_between low high n = nat_le low n && nat_le n high
 
+-- a number of bits that a value may have
+abbrev pub is_width : ℕ → Bool
+is_width width = is_between 1 max_width width
+
 -- a file has a power of two of cells
 abbrev pub is_cell_count : ℕ → Bool
-is_cell_count cells = list_any (λ bits. nat_le cells (2 ^ bits) && nat_le (2 ^ bits) cells) (1 ∷ 2 ∷ 3 ∷ 4 ∷ 5 ∷ 6 ∷ [])
+is_cell_count cells =
+    is_between min_cells max_cells cells
+    && list_any (λ bits. nat_le cells (2 ^ bits) && nat_le (2 ^ bits) cells) (1 ∷ 2 ∷ 3 ∷ 4 ∷ 5 ∷ 6 ∷ [])
 
 -- the limits of each number that a description gives: of the header's
 abbrev pub is_stage_count : ℕ → Bool
-is_stage_count count = is_between 2 8 count
+is_stage_count count = is_between min_stages max_stages count
 
 abbrev pub is_address_width : ℕ → Bool
-is_address_width bits = is_between 4 16 bits
+is_address_width bits = is_between min_address_bits max_address_bits bits
 
 abbrev pub is_word_width : ℕ → Bool
-is_word_width bits = is_between 8 64 bits
+is_word_width bits = is_between min_word_bits max_word_bits bits
 
 -- transfers stand in a stage after the first
 abbrev pub is_transfer_stage : ℕ → ℕ → Bool
 is_transfer_stage stages stage = is_between 1 (stages - 1) stage
 
 abbrev pub is_slot_count : ℕ → Bool
-is_slot_count slots = nat_le slots 8
+is_slot_count slots = nat_le slots max_slots
 
 -- of a file's and a memory's, of a field's width, and of the stage of a line
 abbrev pub is_file_shape : ℕ → ℕ → ℕ → ℕ → Bool
-is_file_shape width cells reads writes = is_width width && is_cell_count cells && is_between 1 4 reads && is_between 1 2 writes
+is_file_shape width cells reads writes = is_width width && is_cell_count cells && is_between 1 max_read_ports reads && is_between 1 max_write_ports writes
 
 abbrev pub is_mem_shape : ℕ → ℕ → Bool
-is_mem_shape address width = is_between 1 16 address && is_width width
+is_mem_shape address width = is_between 1 max_memory_address_bits address && is_width width
 
 abbrev pub is_field_width : ℕ → ℕ → Bool
 is_field_width word width = is_between 1 word width
@@ -83,10 +86,10 @@ abbrev pub is_mem_within : Mem → Bool
 is_mem_within mem = is_mem_shape mem.address mem.width
 
 abbrev pub is_format_within : ℕ → Format → Bool
-is_format_within word format = is_between 1 16 (length format.fields) && list_all (λ (f : Field). is_field_width word f.width) format.fields
+is_format_within word format = is_between 1 max_fields (length format.fields) && list_all (λ (f : Field). is_field_width word f.width) format.fields
 
 abbrev pub is_instr_within : ℕ → Instr → Bool
-is_instr_within stages instr = nat_le (length instr.micros) 64 && list_all (λ (m : Micro). is_stage stages m.stage) instr.micros
+is_instr_within stages instr = nat_le (length instr.micros) max_micro_operations && list_all (λ (m : Micro). is_stage stages m.stage) instr.micros
 
 -- the bits that number a file's cells
 abbrev pub index_bits : File → ℕ
@@ -99,13 +102,13 @@ pub record IsWithinLimits (design : Design) : Type 0 where
   pub word : IsTrue (is_word_width design.word)
   pub branch : IsTrue (is_transfer_stage design.stages design.branch)
   pub slots : IsTrue (is_slot_count design.slots)
-  pub regs : IsTrue (nat_le (length design.regs) 64 && list_all is_reg_within design.regs)
-  pub files : IsTrue (nat_le (length design.files) 8 && list_all is_file_within design.files)
-  pub mems : IsTrue (nat_le (length design.mems) 4 && list_all is_mem_within design.mems)
-  pub inputs : IsTrue (nat_le (length design.inputs) 8 && list_all (λ (p : InPort). is_width p.width) design.inputs)
-  pub units : IsTrue (nat_le (length design.units) 32 && list_all (λ (u : Resource). is_width u.width) design.units)
-  pub formats : IsTrue (nat_le (length design.formats) 32 && list_all (is_format_within design.word) design.formats)
-  pub instrs : IsTrue (nat_le (length design.instrs) 256 && list_all (is_instr_within design.stages) design.instrs)
+  pub regs : IsTrue (nat_le (length design.regs) max_registers && list_all is_reg_within design.regs)
+  pub files : IsTrue (nat_le (length design.files) max_files && list_all is_file_within design.files)
+  pub mems : IsTrue (nat_le (length design.mems) max_memories && list_all is_mem_within design.mems)
+  pub inputs : IsTrue (nat_le (length design.inputs) max_inputs && list_all (λ (p : InPort). is_width p.width) design.inputs)
+  pub units : IsTrue (nat_le (length design.units) max_units && list_all (λ (u : Resource). is_width u.width) design.units)
+  pub formats : IsTrue (nat_le (length design.formats) max_formats && list_all (is_format_within design.word) design.formats)
+  pub instrs : IsTrue (nat_le (length design.instrs) max_instructions && list_all (is_instr_within design.stages) design.instrs)
 
 -- every name in the design, those of operations and locals aside, which it doesn't keep
 abbrev pub names_in : Design → List (List ℕ)

@@ -10,6 +10,7 @@ use Rattle.ap_desc.specs.declared.design.Unit.{Unit as Resource}
 use Rattle.ap_desc.specs.declared.design.Arg.{Arg}
 use Rattle.ap_desc.specs.declared.design.Act.{Act}
 use Rattle.ap_desc.specs.declared.design.Act.TheVariants as act
+use Rattle.ap_desc.specs.Limits.{max_width}
 use Rattle.ap_desc.specs.Designs.{is_width, has_bits, width_at}
 
 abbrev pub reg_width : Design → ℕ → ℕ
@@ -36,7 +37,7 @@ abbrev pub has_bad_width : (Arg → ℕ) → Act → Bool
 has_bad_width width (act.Const bits value) = not (is_width bits)
 has_bad_width width (act.Zext bits a) = not (is_width bits)
 has_bad_width width (act.Sext bits a) = not (is_width bits)
-has_bad_width width (act.Cat a b) = not (nat_le (width a + width b) 64)
+has_bad_width width (act.Cat a b) = not (nat_le (width a + width b) max_width)
 has_bad_width width _ = false
 
 -- an operand that is no guard, condition or target hasn't the width that is needed; an extension is narrower than its operand

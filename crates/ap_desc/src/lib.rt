@@ -24,6 +24,8 @@ mod description_rows;
 #[cfg(test)]
 mod flow_rows;
 #[cfg(test)]
+mod law_rows;
+#[cfg(test)]
 mod meaning_rows;
 #[cfg(test)]
 mod rows;
