@@ -3,6 +3,7 @@ use Rattle.std.proofs.Common.{◌≡◌, ℕ, zero, suc, ◌<◌, ◌≤◌, ◌
 use Rattle.std.specs.Prelude.{◌&&◌, ◌||◌, not, nat_lt, nat_le, slice_get, IfSome, IsSomeAnd, IsTrue, option_map, option_and_then, option_to_list, find}
 use Rattle.std.specs.Option.{option_map_or}
 use Rattle.std.proofs.lemmas.Bool.{and_cases, both_ways, cases_Bool, not-false, or_parts}
+use Rattle.ap_bits.specs.Cards.{operation_names}
 use Rattle.ap_bits.specs.declared.card.Card.{Card}
 use Rattle.ap_bits.specs.declared.card.OpCard.{OpCard}
 use Rattle.ap_desc.proofs.Members.{each_get, some_and}
@@ -11,7 +12,7 @@ use Rattle.ap_desc.specs.Designs.{IsArg, IsInRange, IsReadPort, IsWritePort, ass
 use Rattle.ap_desc.specs.Instructions.{act_of, arg_of, assigned_name, operation_place}
 use Rattle.ap_desc.specs.NameFaults.{is_missing, is_no_guard, is_no_operand, is_no_operation, is_no_read_port, is_no_write_port, is_unknown}
 use Rattle.ap_desc.specs.Order.{is_micro}
-use Rattle.ap_desc.specs.Parts.{card_of_unit, file_named, file_names, input_names, mem_names, named, names_of_fields, operation_names, place_of, reg_names, unit_named, unit_names}
+use Rattle.ap_desc.specs.Parts.{card_of_unit, file_named, file_names, input_names, mem_names, named, names_of_fields, place_of, reg_names, unit_named, unit_names}
 use Rattle.ap_desc.specs.Reserved.{is_among}
 use Rattle.ap_desc.specs.Scope.{Scope}
 use Rattle.ap_desc.specs.Shelf.{HasOperation, IsOfCard}
