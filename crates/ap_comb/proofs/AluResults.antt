@@ -1,5 +1,5 @@
 -- The results of the unit's operations are the values of the card's.
-use Rattle.std.proofs.Common.{◌≡◌, ℕ, ◌<◌, suc, zero, length, map, get_or, refl, sym, ap, subst, ◌∙◌, arith}
+use Rattle.std.proofs.Common.{◌≡◌, ℕ, ◌<◌, suc, zero, map, get_or, sym, ◌∙◌, arith}
 use Rattle.std.specs.Prelude.{slice_index}
 use Rattle.std.proofs.lemmas.List.{get_or-map}
 use Rattle.ap_bits.proofs.TermValues.{term_values}

@@ -10,17 +10,14 @@ use Rattle.ap_bits.specs.declared.term.BinOp.TheVariants.{Sll, Srl, Sra, Rol, Ad
 use Rattle.ap_bits.specs.declared.term.UnOp.{UnOp}
 use Rattle.ap_bits.specs.declared.term.UnOp.TheVariants.{Pop, Clz}
 use Rattle.ap_bits.specs.declared.term.Term.{Un, Bin, A, B, Const}
-use Rattle.ap_bits.specs.declared.card.Card.{Card}
-use Rattle.ap_bits.specs.declared.card.Latency.TheVariants.{One}
 use Rattle.ap_bits.specs.declared.card.Widths.TheVariants.{Any, PowersOfTwo}
-use Rattle.ap_bits.specs.Cards.{allows, select_width, operation_value}
+use Rattle.ap_bits.specs.Cards.{allows, operation_value}
 use Rattle.ap_bits.specs.Operations.{unary_value, binary_value}
 use Rattle.ap_bits.specs.Terms.{term_value}
 use Rattle.ap_bits.proofs.TermValues.{term_value-first, term_value-second, term_value-const, term_value-un, term_value-bin}
 use Rattle.ap_net.specs.declared.cell.Wire.{Wire}
 use Rattle.ap_net.specs.Draft.{Draft, SettlesDraft}
 use Rattle.ap_unit.specs.declared.pieces.Inputs.{Inputs}
-use Rattle.ap_unit.specs.Built.{IsUnitDraft}
 use Rattle.ap_unit.specs.Pieces.{HasValue}
 use Rattle.ap_bits.specs.KindCards.{shift_card, count_card, avg_card}
 use Rattle.ap_comb.specs.Shifts.{shift_ops}

@@ -1,5 +1,5 @@
 -- A signed comparison by the signs.
-use Rattle.std.proofs.Common.{◌≡◌, ℕ, ◌+◌, ◌-◌, ◌*◌, ◌/◌, ◌%◌, ◌^◌, ◌<◌, ◌≤◌, ltb, refl, ap, sym, ◌∙◌, arith, suc, ⊎_elim}
+use Rattle.std.proofs.Common.{◌≡◌, ℕ, ◌-◌, ◌*◌, ◌/◌, ◌%◌, ◌^◌, ◌<◌, ◌≤◌, refl, ap, sym, ◌∙◌, arith, suc, ⊎_elim}
 use Rattle.std.specs.Prelude.{pos, negsuc, ◌-ℤ◌, nat_lt, ◌==◌, if◌then◌else◌, bit_xor, int_lt}
 use Rattle.std.proofs.lemmas.Int.{ints}
 use Rattle.std.proofs.lemmas.Bool.{cases_lt, lt-ltb, le-ltb}
