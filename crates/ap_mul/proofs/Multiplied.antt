@@ -11,7 +11,7 @@ use Rattle.ap_bits.specs.Terms.{term_value}
 use Rattle.ap_bits.specs.Operations.{binary_value}
 use Rattle.ap_bits.proofs.TermValues.{term_values}
 use Rattle.ap_unit.specs.Methods.{State, Method, after_steps, shown_of, Reaches}
-use Rattle.ap_unit.specs.Cards.{operation_value}
+use Rattle.ap_bits.specs.Cards.{operation_value}
 use Rattle.ap_unit.proofs.TopBits.{bit_cases}
 use Rattle.ap_mul.specs.Products.{mul_card, multiply, product_step}
 

@@ -1,5 +1,5 @@
 -- The beginning of a unit that makes a step a cycle, and how it goes on as fresh wires are made.
-use Rattle.std.proofs.Common.{◌≡◌, ℕ, suc, zero, ◌+◌, ◌-◌, ◌*◌, ◌^◌, ◌<◌, ◌≤◌, ⊎_elim, List, [], ◌∷◌, ◌++◌, map, Some, refl, sym, ap, subst, ◌∙◌, arith}
+use Rattle.std.proofs.Common.{◌≡◌, ℕ, suc, zero, ◌+◌, ◌-◌, ◌*◌, ◌^◌, ◌<◌, ◌≤◌, lit≤, ⊎_elim, List, [], ◌∷◌, ◌++◌, map, Some, refl, sym, ap, subst, ◌∙◌, arith}
 use Rattle.std.specs.Prelude.{slice_get, codes, ◌==◌, if◌then◌else◌, Bool, true, false}
 use Rattle.std.specs.Int.Count.{count_leading_zeros}
 use Rattle.std.proofs.lemmas.Nat.{leading_length}
@@ -33,15 +33,15 @@ short_width w few =
     (cases_lt m 8) in
     (subst (λ n. w < 2 ^ n) same room, subst (λ n. n ≤ 7) same short)
 
-there : (w k : ℕ) → AreStepNets (step_nets w k) (step_wires w k)
-there w k = record {
-  a = record { declared = refl };
-  b = record { declared = refl };
-  go = record { declared = refl };
-  adv = record { declared = refl };
-  count = record { declared = refl };
-  running = record { declared = refl };
-  held = record { high = record { declared = refl }; low = record { declared = refl }; high_width = refl; low_width = refl };
+there : (w k : ℕ) → 1 ≤ w → w ≤ 64 → 1 ≤ k → k ≤ 7 → AreStepNets (step_nets w k) (step_wires w k)
+there w k low high some few = record {
+  a = record { declared = refl; low = low; high = high };
+  b = record { declared = refl; low = low; high = high };
+  go = record { declared = refl; low = lit≤ tt; high = lit≤ tt };
+  adv = record { declared = refl; low = lit≤ tt; high = lit≤ tt };
+  count = record { declared = refl; low = some; high = omega arith };
+  running = record { declared = refl; low = lit≤ tt; high = lit≤ tt };
+  held = record { high = record { declared = refl; low = low; high = high }; low = record { declared = refl; low = low; high = high }; high_width = refl; low_width = refl };
   b_width = refl;
   go_width = refl;
   adv_width = refl;
@@ -52,7 +52,7 @@ there w k = record {
 holds : (name : List ℕ) (w k : ℕ) → w < 2 ^ k → 1 ≤ k → k ≤ 7 → 1 ≤ w → w ≤ 64 → HoldsStepper (with_stepper name w k) (step_wires w k)
 holds name w k room some few low high = record {
   wires = refl;
-  nets = there w k;
+  nets = there w k low high some few;
   low = low;
   high = high;
   room = room;

@@ -20,7 +20,7 @@ use Rattle.ap_net.specs.Finished.{IsFinished}
 use Rattle.ap_net.proofs.Laws.{Makes-trans, net-Adds, Settles-before}
 use Rattle.ap_unit.specs.declared.stepper.Pair.{Pair}
 use Rattle.ap_unit.specs.declared.stepper.Stepper.{Stepper}
-use Rattle.ap_unit.specs.Cards.{operation_value}
+use Rattle.ap_bits.specs.Cards.{operation_value}
 use Rattle.ap_unit.specs.Ages.{UnitInput, age_at, IsHeld, AreProper}
 use Rattle.ap_unit.specs.Depends.{DependsOnNone}
 use Rattle.ap_unit.specs.Units.{ComputesInCycles, Behaves, ports_by, input_of, RunsAlone, ShowsAge}

@@ -2,7 +2,7 @@
 -- state, and which part of the last state is the value of an operation.
 use Rattle.std.specs.Prelude.{◌≡◌, ℕ, zero, suc, ◌^◌, ◌<◌, ◌==◌, if◌then◌else◌, length}
 use Rattle.ap_bits.specs.declared.card.Card.{Card}
-use Rattle.ap_unit.specs.Cards.{operation_value}
+use Rattle.ap_bits.specs.Cards.{operation_value}
 
 -- the two numbers that are kept from step to step
 pub record State : Type 0 where
