@@ -53,8 +53,8 @@ pub fn is_name(bytes: &[u8]) -> bool
 impl Name {
     /// The name that the bytes are, and None where they are none.
     pub fn parse(alloc: Global, bytes: &[u8]) -> Result<Option<Name>, NoMemory>
-        ensures { IfOk result (λ name. name
-            ≡ (if names.is_name bytes.now then Some bytes.now else None)) }
+        ensures { IfOk result
+            (λ name. name ≡ (if names.is_name bytes.now then Some bytes.now else None)) }
     {
         if !is_name(bytes) {
             return Ok(None);
