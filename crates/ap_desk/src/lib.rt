@@ -2,6 +2,7 @@
 #![tactic(auto)]
 
 mod calls;
+pub mod counts;
 pub mod desk;
 pub mod memory;
 pub mod pieces;

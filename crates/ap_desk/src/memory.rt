@@ -2,9 +2,10 @@ ghost use Rattle.std.specs.Prelude.{◌≡◌, ◌≢◌, ◌≤◌, ◌/◌, �
 ghost use Rattle.std.specs.FinMap as map;
 ghost use Rattle.ap_desk.specs.Files.{IsFileName, Goes, Reads, Becomes, BecomesEmptyOrStays, Gains, GainsFront};
 ghost use Rattle.ap_desk.specs.Causes.{HasCause};
-ghost use Rattle.ap_desk.specs.Calls.{IsDue, new_state, counted, faults_after, absent_after};
+ghost use Rattle.ap_desk.specs.Calls.{IsDue, new_state, counted, counts_after};
 
 use crate::calls::Calls;
+use crate::counts::Counts;
 use crate::desk::{Desk, DeskFault};
 use crate::table::FileTable;
 use std::alloc::{AllocError, Global};
@@ -42,8 +43,7 @@ pub struct MemDesk {
     reads: Calls,
     creates: Calls,
     appends: Calls,
-    faults: u64,
-    absent: u64,
+    counts: Counts,
 }
 
 impl Model for MemDesk {
@@ -58,8 +58,7 @@ impl Model for MemDesk {
       reads = d.reads;
       creates = d.creates;
       appends = d.appends;
-      faults = d.faults;
-      absent = d.absent;
+      counts = d.counts;
     } };
 }
 
@@ -75,8 +74,10 @@ impl MemDesk {
             reads: Calls::new(alloc),
             creates: Calls::new(alloc),
             appends: Calls::new(alloc),
-            faults: 0,
-            absent: 0,
+            counts: Counts {
+                faults: 0,
+                absent: 0,
+            },
         }
     }
 
@@ -113,25 +114,23 @@ impl MemDesk {
 
     /// How many calls failed, up to 2^64 - 1.
     pub fn fault_count(&self) -> u64
-        ensures { result ≡ self.now.faults }
+        ensures { result ≡ self.now.counts.faults }
     {
-        self.faults
+        self.counts.faults
     }
 
     /// How many reads missed their file, up to 2^64 - 1.
     pub fn absent_count(&self) -> u64
-        ensures { result ≡ self.now.absent }
+        ensures { result ≡ self.now.counts.absent }
     {
-        self.absent
+        self.counts.absent
     }
 }
 
 impl Desk for MemDesk {
     ghost files = { λ d. Some d.files };
 
-    ghost faults = { λ d. d.faults };
-
-    ghost absent = { λ d. d.absent };
+    ghost counts = { λ d. d.counts };
 
     /// Fails exactly where the call's number is in the list of reads; `Missing` comes exactly where it isn't and the
     /// file isn't there.
@@ -143,19 +142,18 @@ impl Desk for MemDesk {
             ↔ (¬ IsDue self.old.reads × (map.get self.old.files name.now ≡ None)) }
         ensures state { self.new ≡ record self.old {
           reads = counted self.old.reads;
-          faults = faults_after result self.old.faults;
-          absent = absent_after result self.old.absent;
+          counts = counts_after result self.old.counts;
         } }
-        ensures cause { HasCause self.old.faults self.new.faults self.old.absent self.new.absent result }
+        ensures cause { HasCause self.old.counts self.new.counts result }
     {
         if self.reads.advance() {
-            self.faults = self.faults.saturating_add(1);
+            self.counts.faults = self.counts.faults.saturating_add(1);
             return Err(DeskFault::Failed);
         }
         match self.table.read(name, at, into) {
             Some(count) => Ok(count),
             None => {
-                self.absent = self.absent.saturating_add(1);
+                self.counts.absent = self.counts.absent.saturating_add(1);
                 Err(DeskFault::Missing)
             }
         }
@@ -170,12 +168,12 @@ impl Desk for MemDesk {
         ensures state { self.new ≡ record self.old {
           files = self.new.files;
           creates = counted self.old.creates;
-          faults = faults_after result self.old.faults;
+          counts = counts_after result self.old.counts;
         } }
-        ensures cause { HasCause self.old.faults self.new.faults self.old.absent self.new.absent result }
+        ensures cause { HasCause self.old.counts self.new.counts result }
     {
         if self.creates.advance() {
-            self.faults = self.faults.saturating_add(1);
+            self.counts.faults = self.counts.faults.saturating_add(1);
             return Err(DeskFault::Failed);
         }
         self.table.put(name, &[])?;
@@ -195,13 +193,13 @@ impl Desk for MemDesk {
         ensures state { self.new ≡ record self.old {
           files = self.new.files;
           appends = counted self.old.appends;
-          faults = faults_after result self.old.faults;
+          counts = counts_after result self.old.counts;
         } }
-        ensures cause { HasCause self.old.faults self.new.faults self.old.absent self.new.absent result }
+        ensures cause { HasCause self.old.counts self.new.counts result }
     {
         if self.appends.advance() {
             let _ = self.table.append(name, &piece[..piece.len() / 2]);
-            self.faults = self.faults.saturating_add(1);
+            self.counts.faults = self.counts.faults.saturating_add(1);
             return Err(DeskFault::Failed);
         }
         self.table.append(name, piece)?;

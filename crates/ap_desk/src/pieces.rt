@@ -13,14 +13,17 @@ pub const PIECE: usize = 4096;
 ///
 /// An empty text makes no call, so for one the file has to be there already. A text that isn't empty may go to a file
 /// that isn't there yet, or to `-`: the first piece makes it. The first call that gives up ends the loop with its
-/// fault, which is never `Missing`; then a front of the text was added, or nothing was done.
+/// fault, which is never `Missing`; then a front of the text was added, or nothing was done. The counts are as they
+/// were, but for that fault's.
 pub fn append_all<D: Desk>(desk: &mut D, name: &str, text: &[u8]) -> Result<(), DeskFault>
     requires name { name.now ≢ [] }
     requires there { text.now ≡ [] → Stands name.now (D.files desk.old) }
-    ensures ok { OnOk result (Goes (Gains name.now text.now) (D.files desk.old) (D.files desk.new)) }
-    ensures err { OnErr result (Goes (GainsFront name.now text.now) (D.files desk.old) (D.files desk.new)) }
+    ensures ok { OnOk result
+        (Goes (Gains name.now text.now) (D.files desk.old) (D.files desk.new)) }
+    ensures err { OnErr result
+        (Goes (GainsFront name.now text.now) (D.files desk.old) (D.files desk.new)) }
     ensures not_missing { result ≢ Err DeskFault.Missing }
-    ensures cause { HasCause (D.faults desk.old) (D.faults desk.new) (D.absent desk.old) (D.absent desk.new) result }
+    ensures cause { HasCause (D.counts desk.old) (D.counts desk.new) result }
 {
     let mut at = 0usize;
     while at < text.len() {
@@ -34,13 +37,15 @@ pub fn append_all<D: Desk>(desk: &mut D, name: &str, text: &[u8]) -> Result<(), 
 /// Makes the file hold exactly this text: creates it, and adds the text in pieces of at most 4,096 bytes in order.
 ///
 /// The first call that gives up ends it with its fault, which is never `Missing`; then the file is as it was, or holds
-/// a front of the text. All other files stay.
+/// a front of the text. All other files stay, and so do the counts, but for that fault's.
 pub fn write_all<D: Desk>(desk: &mut D, name: &str, text: &[u8]) -> Result<(), DeskFault>
     requires { IsFileName name.now }
-    ensures ok { OnOk result (Goes (Becomes name.now text.now) (D.files desk.old) (D.files desk.new)) }
-    ensures err { OnErr result (Goes (BecomesFrontOrStays name.now text.now) (D.files desk.old) (D.files desk.new)) }
+    ensures ok { OnOk result
+        (Goes (Becomes name.now text.now) (D.files desk.old) (D.files desk.new)) }
+    ensures err { OnErr result
+        (Goes (BecomesFrontOrStays name.now text.now) (D.files desk.old) (D.files desk.new)) }
     ensures not_missing { result ≢ Err DeskFault.Missing }
-    ensures cause { HasCause (D.faults desk.old) (D.faults desk.new) (D.absent desk.old) (D.absent desk.new) result }
+    ensures cause { HasCause (D.counts desk.old) (D.counts desk.new) result }
 {
     desk.create(name)?;
     append_all(desk, name, text)?;
@@ -50,9 +55,9 @@ pub fn write_all<D: Desk>(desk: &mut D, name: &str, text: &[u8]) -> Result<(), D
 /// Reads the file from its start until a call answers 0 bytes or more bytes than `limit` are held.
 ///
 /// Where the desk tells its files, the answered bytes are the whole file if it has at most `limit` bytes; a longer
-/// file gives a front of it that is longer than `limit`. Each call that goes on takes at least one byte, so there
-/// are at most `limit` + 2 calls. `Missing` and `Failed` are those of the call that gave up; want of memory for the
-/// bytes is `NoMemory`.
+/// file gives a front of it that is longer than `limit`. The first call that gives up ends it with its fault, and no
+/// count but that fault's changed; want of memory for the bytes is `NoMemory`. It ends on every desk, since each call
+/// that goes on took at least one byte: its measure is how many bytes are missing at most, `limit` + 1 at the start.
 pub fn read_all<D: Desk>(
     alloc: Global,
     desk: &mut D,
@@ -67,7 +72,7 @@ pub fn read_all<D: Desk>(
     ensures missing { result ≡ Err DeskFault.Missing
         → IfSome (D.files desk.old) (λ told. map.get told name.now ≡ None) }
     ensures same { D.files desk.new ≡ D.files desk.old }
-    ensures cause { HasCause (D.faults desk.old) (D.faults desk.new) (D.absent desk.old) (D.absent desk.new) result }
+    ensures cause { HasCause (D.counts desk.old) (D.counts desk.new) result }
 {
     let mut bytes = Vec::new(alloc);
     let mut piece = [0u8; PIECE];

@@ -2,7 +2,7 @@ ghost use Rattle.std.specs.Prelude.{◌≡◌, ◌≢◌, ◌≤◌, ◌↔◌, 
 ghost use Rattle.std.specs.FinMap as map;
 ghost use Rattle.ap_desk.specs.Files.{Reads, Becomes, Gains};
 ghost use Rattle.ap_desk.specs.Causes.{HasCause};
-ghost use Rattle.ap_desk.specs.Calls.{absent_after};
+ghost use Rattle.ap_desk.specs.Calls.{counts_after, counts_of};
 
 use crate::desk::{Desk, DeskFault};
 use crate::memory::NoMemory;
@@ -60,18 +60,18 @@ impl SureDesk {
 impl Desk for SureDesk {
     ghost files = { λ d. Some d.files };
 
-    ghost faults = { λ _. 0 };
-
-    ghost absent = { λ d. d.absent };
+    ghost counts = { λ d. counts_of d };
 
     /// Answers `Missing` exactly where the file isn't there, and no other error.
     fn read(&mut self, name: &str, at: u64, into: &mut [u8]) -> Result<usize, DeskFault>
         ensures bound { IfOk result (λ n. n ≤ length into.new) }
         ensures bytes { IfOk result (λ n. Reads self.old.files name.now at n into.new) }
-        ensures missing { (result ≡ Err DeskFault.Missing) ↔ (map.get self.old.files name.now ≡ None) }
+        ensures missing { (result ≡ Err DeskFault.Missing)
+            ↔ (map.get self.old.files name.now ≡ None) }
         ensures only_missing { OnErr result (result ≡ Err DeskFault.Missing) }
-        ensures state { self.new ≡ record self.old { absent = absent_after result self.old.absent } }
-        ensures cause { HasCause 0 0 self.old.absent self.new.absent result }
+        ensures state { self.new
+            ≡ record self.old { absent = (counts_after result (counts_of self.old)).absent } }
+        ensures cause { HasCause (counts_of self.old) (counts_of self.new) result }
     {
         match self.table.read(name, at, into) {
             Some(count) => Ok(count),
@@ -88,7 +88,7 @@ impl Desk for SureDesk {
             ≡ record self.old { files = map.insert self.old.files name.now [] }) }
         ensures err { OnErr result (self.new ≡ self.old) }
         ensures only_no_memory { OnErr result (result ≡ Err DeskFault.NoMemory) }
-        ensures cause { HasCause 0 0 self.old.absent self.new.absent result }
+        ensures cause { HasCause (counts_of self.old) (counts_of self.new) result }
     {
         self.table.put(name, &[])?;
         Ok(())
@@ -100,7 +100,7 @@ impl Desk for SureDesk {
         ensures err { OnErr result (self.new ≡ self.old) }
         ensures only_no_memory { OnErr result (result ≡ Err DeskFault.NoMemory) }
         ensures same { self.new.absent ≡ self.old.absent }
-        ensures cause { HasCause 0 0 self.old.absent self.new.absent result }
+        ensures cause { HasCause (counts_of self.old) (counts_of self.new) result }
     {
         self.table.append(name, piece)?;
         Ok(())

@@ -1,10 +1,11 @@
-ghost use Rattle.std.specs.Prelude.{◌≡◌, ◌≢◌, ◌↔◌, ℕ, ◌<◌, ◌≤◌, length, take, [], OnOk, OnErr, IfOk, IfSome, None};
+ghost use Rattle.std.specs.Prelude.{◌≡◌, ◌≢◌, ◌↔◌, ℕ, ◌<◌, ◌≤◌, length, take, [], OnOk, OnErr, IfOk, IfSome, IsErr, IsErrAnd, None, Ok};
 ghost use Rattle.std.specs.IoError.{error_kind};
 ghost use Rattle.std.specs.Io.KnownBytes.{Appends, Consumes, IsAtEnd};
 ghost use Rattle.ap_desk.specs.Files.{Goes, Reads, Becomes, BecomesEmptyOrStays, Gains, GainsFront};
 ghost use Rattle.ap_desk.specs.Causes.{HasCause};
-ghost use Rattle.ap_desk.specs.Calls.{faults_after, absent_after};
+ghost use Rattle.ap_desk.specs.Calls.{counts_after, no_counts};
 
+use crate::counts::Counts;
 use crate::desk::{Desk, DeskFault};
 use std::fs::{File, OpenOptions};
 use std::io;
@@ -21,52 +22,51 @@ const STDOUT: &str = "-";
 #[derive(Drop)]
 pub struct FileDesk<'a, R> {
     runtime: &'a R,
-    faults: u64,
-    absent: u64,
+    counts: Counts,
 }
 
 impl<'a, R> FileDesk<'a, R> {
     /// A desk over this runtime's files, with both counts at 0.
     pub fn new(runtime: &'a R) -> FileDesk<'a, R>
-        ensures faults { result.faults ≡ 0 }
-        ensures absent { result.absent ≡ 0 }
+        ensures { result.counts ≡ no_counts }
     {
         FileDesk {
             runtime,
-            faults: 0,
-            absent: 0,
+            counts: Counts {
+                faults: 0,
+                absent: 0,
+            },
         }
     }
 
     /// How many calls failed, up to 2^64 - 1.
     pub fn fault_count(&self) -> u64
-        ensures { result ≡ self.now.faults }
+        ensures { result ≡ self.now.counts.faults }
     {
-        self.faults
+        self.counts.faults
     }
 
     /// How many reads missed their file, up to 2^64 - 1.
     pub fn absent_count(&self) -> u64
-        ensures { result ≡ self.now.absent }
+        ensures { result ≡ self.now.counts.absent }
     {
-        self.absent
+        self.counts.absent
     }
 
     // Raises the count of the answer's fault, and hands the answer on.
     fn counted<T>(&mut self, answer: Result<T, DeskFault>) -> Result<T, DeskFault>
         ensures same { result ≡ answer }
-        ensures faults { self.new.faults ≡ faults_after answer self.old.faults }
-        ensures absent { self.new.absent ≡ absent_after answer self.old.absent }
-        ensures cause { HasCause self.old.faults self.new.faults self.old.absent self.new.absent result }
+        ensures counts { self.new.counts ≡ counts_after answer self.old.counts }
+        ensures cause { HasCause self.old.counts self.new.counts result }
     {
         match answer {
             Ok(value) => Ok(value),
             Err(DeskFault::Failed) => {
-                self.faults = self.faults.saturating_add(1);
+                self.counts.faults = self.counts.faults.saturating_add(1);
                 Err(DeskFault::Failed)
             }
             Err(DeskFault::Missing) => {
-                self.absent = self.absent.saturating_add(1);
+                self.counts.absent = self.counts.absent.saturating_add(1);
                 Err(DeskFault::Missing)
             }
             Err(DeskFault::NoMemory) => Err(DeskFault::NoMemory),
@@ -77,17 +77,14 @@ impl<'a, R> FileDesk<'a, R> {
 impl<R: Files + Print> Desk for FileDesk<'_, R> {
     ghost files = { λ _. None };
 
-    ghost faults = { λ d. d.faults };
-
-    ghost absent = { λ d. d.absent };
+    ghost counts = { λ d. d.counts };
 
     /// Answers `Missing` where no file of this name is found, and `Failed` at any other error of the system.
     fn read(&mut self, name: &str, at: u64, into: &mut [u8]) -> Result<usize, DeskFault>
         ensures bound { IfOk result (λ n. n ≤ length into.new) }
         ensures bytes { IfOk result (λ n. IfSome None (λ told. Reads told name.now at n into.new)) }
-        ensures faults { self.new.faults ≡ faults_after result self.old.faults }
-        ensures absent { self.new.absent ≡ absent_after result self.old.absent }
-        ensures cause { HasCause self.old.faults self.new.faults self.old.absent self.new.absent result }
+        ensures counts { self.new.counts ≡ counts_after result self.old.counts }
+        ensures cause { HasCause self.old.counts self.new.counts result }
     {
         let answer = read_file(self.runtime, name, at, into);
         self.counted(answer)
@@ -97,9 +94,8 @@ impl<R: Files + Print> Desk for FileDesk<'_, R> {
         ensures ok { OnOk result (Goes (Becomes name.now []) None None) }
         ensures err { OnErr result (Goes (BecomesEmptyOrStays name.now) None None) }
         ensures not_missing { result ≢ Err DeskFault.Missing }
-        ensures faults { self.new.faults ≡ faults_after result self.old.faults }
-        ensures absent { self.new.absent ≡ self.old.absent }
-        ensures cause { HasCause self.old.faults self.new.faults self.old.absent self.new.absent result }
+        ensures counts { self.new.counts ≡ counts_after result self.old.counts }
+        ensures cause { HasCause self.old.counts self.new.counts result }
     {
         let answer = create_file(self.runtime, name);
         self.counted(answer)
@@ -109,9 +105,8 @@ impl<R: Files + Print> Desk for FileDesk<'_, R> {
         ensures ok { OnOk result (Goes (Gains name.now piece.now) None None) }
         ensures err { OnErr result (Goes (GainsFront name.now piece.now) None None) }
         ensures not_missing { result ≢ Err DeskFault.Missing }
-        ensures faults { self.new.faults ≡ faults_after result self.old.faults }
-        ensures absent { self.new.absent ≡ self.old.absent }
-        ensures cause { HasCause self.old.faults self.new.faults self.old.absent self.new.absent result }
+        ensures counts { self.new.counts ≡ counts_after result self.old.counts }
+        ensures cause { HasCause self.old.counts self.new.counts result }
     {
         let answer = append_file(self.runtime, name, piece);
         self.counted(answer)
@@ -120,7 +115,8 @@ impl<R: Files + Print> Desk for FileDesk<'_, R> {
 
 // What an error of the system is to the desk: want of memory, or a failed call.
 fn fault_of(error: &io::Error) -> DeskFault
-    ensures memory { (result ≡ DeskFault.NoMemory) ↔ (error_kind error.now ≡ ErrorKind.OutOfMemory) }
+    ensures memory { (result ≡ DeskFault.NoMemory)
+        ↔ (error_kind error.now ≡ ErrorKind.OutOfMemory) }
     ensures not_missing { result ≢ DeskFault.Missing }
 {
     match error.kind() {
@@ -129,12 +125,54 @@ fn fault_of(error: &io::Error) -> DeskFault
     }
 }
 
+// What it is to a call that opens a file to read it: the file isn't there where none of the name is found.
+fn opening_fault(error: &io::Error) -> DeskFault
+    ensures missing { (result ≡ DeskFault.Missing) ↔ (error_kind error.now ≡ ErrorKind.NotFound) }
+    ensures memory { (result ≡ DeskFault.NoMemory)
+        ↔ (error_kind error.now ≡ ErrorKind.OutOfMemory) }
+{
+    match error.kind() {
+        ErrorKind::NotFound => DeskFault::Missing,
+        _ => fault_of(error),
+    }
+}
+
+// What the answer of one read is to the loop that fills a buffer.
+enum Reading {
+    // So many bytes came.
+    More(usize),
+    // The end was met, which is no failure.
+    End,
+    // The read was interrupted, and is made again.
+    Again,
+    // The read gave up.
+    Fault(DeskFault),
+}
+
+fn reading_of(answer: io::Result<usize>) -> Reading
+    ensures more { IfOk answer (λ n. n ≢ 0 → result ≡ Reading.More n) }
+    ensures end { (result ≡ Reading.End) ↔ (answer ≡ Ok 0) }
+    ensures again { (result ≡ Reading.Again)
+        ↔ IsErrAnd answer (λ e. error_kind e ≡ ErrorKind.Interrupted) }
+    ensures came { (n : ℕ) → result ≡ Reading.More n → answer ≡ Ok n }
+    ensures fault { (fault : DeskFault) → result ≡ Reading.Fault fault
+        → IsErr answer × (fault ≢ DeskFault.Missing) }
+{
+    match answer {
+        Ok(0) => Reading::End,
+        Ok(count) => Reading::More(count),
+        Err(error) => match error.kind() {
+            ErrorKind::Interrupted => Reading::Again,
+            _ => Reading::Fault(fault_of(&error)),
+        },
+    }
+}
+
 // The file, opened to read.
 fn open_file<R: Files>(runtime: &R, name: &str) -> Result<R::File, DeskFault> {
     match File::open(runtime, name) {
         Ok(file) => Ok(file),
-        Err(error) if error.kind() == ErrorKind::NotFound => Err(DeskFault::Missing),
-        Err(error) => Err(fault_of(&error)),
+        Err(error) => Err(opening_fault(&error)),
     }
 }
 
@@ -181,7 +219,8 @@ fn append_file<R: Files + Print>(runtime: &R, name: &str, piece: &[u8]) -> Resul
 // Reads until `into` is full or the end is met, and says how many bytes came.
 fn fill<S: Read>(source: &mut S, into: &mut [u8]) -> Result<usize, DeskFault>
     ensures bound { IfOk result (λ n. n ≤ length into.new) }
-    ensures bytes { IfOk result (λ n. Consumes (S.remaining source.old) (S.remaining source.new) (take n into.new)) }
+    ensures bytes { IfOk result
+        (λ n. Consumes (S.remaining source.old) (S.remaining source.new) (take n into.new)) }
     ensures end { IfOk result (λ n. n < length into.new → IsAtEnd (S.remaining source.new)) }
     ensures not_missing { result ≢ Err DeskFault.Missing }
 {
@@ -190,14 +229,12 @@ fn fill<S: Read>(source: &mut S, into: &mut [u8]) -> Result<usize, DeskFault>
         if count >= into.len() {
             return Ok(count);
         }
-        match source.read(&mut into[count..]) {
-            Ok(0) => return Ok(count),
-            Ok(more) => count += more,
-            Err(error) => {
-                if error.kind() != ErrorKind::Interrupted {
-                    return Err(fault_of(&error));
-                }
-            }
+        let answer = source.read(&mut into[count..]);
+        match reading_of(answer) {
+            Reading::More(more) => count += more,
+            Reading::End => return Ok(count),
+            Reading::Again => {}
+            Reading::Fault(fault) => return Err(fault),
         }
     }
     Err(DeskFault::Failed)

@@ -22,7 +22,8 @@ fn is_named(file: &MemFile, name: &str) -> bool
 
 // Where the file of this name stands.
 fn place_of(files: &[MemFile], name: &str) -> Option<usize>
-    ensures found { IfSome result (λ i. IsPlace (pairs_of files.now) name.now i × (i < length files.now)) }
+    ensures found { IfSome result
+        (λ i. IsPlace (pairs_of files.now) name.now i × (i < length files.now)) }
     ensures none { IfNone result (map.get (files_of files.now) name.now ≡ None) }
 {
     for (i, file) in files.iter().enumerate() {
@@ -35,7 +36,8 @@ fn place_of(files: &[MemFile], name: &str) -> Option<usize>
 
 // The bytes of the file, where it is there.
 fn bytes_of<'a>(files: &'a [MemFile], name: &str) -> Option<&'a [u8]>
-    ensures found { IfSome result (λ bytes. map.get (files_of files.now) name.now ≡ Some bytes.now) }
+    ensures found { IfSome result
+        (λ bytes. map.get (files_of files.now) name.now ≡ Some bytes.now) }
     ensures none { IsNone result ↔ (map.get (files_of files.now) name.now ≡ None) }
 {
     match place_of(files, name) {
@@ -51,7 +53,8 @@ fn put_file(
     name: &str,
     bytes: Vec<u8>,
 ) -> Result<(), AllocError>
-    ensures ok { OnOk result (Becomes name.now bytes.items (files_of files.old.items) (files_of files.new.items)) }
+    ensures ok { OnOk result
+        (Becomes name.now bytes.items (files_of files.old.items) (files_of files.new.items)) }
     ensures err { OnErr result (files_of files.new.items ≡ files_of files.old.items) }
 {
     match place_of(files, name) {
@@ -74,7 +77,8 @@ fn append_file(
     name: &str,
     piece: &[u8],
 ) -> Result<(), AllocError>
-    ensures ok { OnOk result (Gains name.now piece.now (files_of files.old.items) (files_of files.new.items)) }
+    ensures ok { OnOk result
+        (Gains name.now piece.now (files_of files.old.items) (files_of files.new.items)) }
     ensures err { OnErr result (files_of files.new.items ≡ files_of files.old.items) }
 {
     match place_of(files, name) {

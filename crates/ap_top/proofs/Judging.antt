@@ -22,12 +22,13 @@ use Rattle.ap_top.specs.declared.form.ReadFault.TheVariants as reading
 use Rattle.ap_top.specs.declared.refusal.Refusal.{Refusal}
 use Rattle.ap_top.specs.declared.refusal.Refusal.TheVariants.{Usage, Description}
 use Rattle.ap_top.specs.Additions.{Operation, IsAddition}
+use Rattle.ap_top.specs.Calls.{Call}
 use Rattle.ap_top.specs.DesignText.{IsDesignText}
-use Rattle.ap_top.specs.Endings.{Answers, IsDone}
+use Rattle.ap_top.specs.Endings.{IsAnswer, IsDone}
 use Rattle.ap_top.specs.Form.{AreLines, HasAddition, HasJudgedFault, IsDescription, IsForm, IsLine, IsNotBuiltAt, IsReadFault, Token, first_form}
 use Rattle.ap_top.specs.Generate.{gen_sources, gen_targets}
 use Rattle.ap_top.specs.Inputs as inputs
-use Rattle.ap_top.specs.Inputs.{AreGood, HasGoodInputs, IsDue, IsGood, IsRefused, RefusesOne, Source, inputs_of, with_text}
+use Rattle.ap_top.specs.Inputs.{AreGood, AreInputsGood, AsksRefusal, HasGoodInputs, IsGood, IsRefusalDue, IsRefused, RefusesOne, Source, inputs_of, with_text}
 use Rattle.ap_top.specs.Outputs.{Target, FromGood, IsBegunOn, Writes}
 use Rattle.ap_top.specs.Refusals.{IsOrMemory, refusal_status, stop_of}
 use Rattle.ap_top.specs.Troubles.{StopsOn}
@@ -68,31 +69,31 @@ module _ (cards : List Card) where
   good_command words files Gen Gen judged good refused = none_refused files [] (inputs_of Gen words) (Description judged) good refused
 
   -- a good command isn't refused,
-  good_not_due : (words : List (List ℕ)) (files : Files) (refusal : Refusal) → HasGoodInputs cards words files → IsDue cards words (Some files) refusal → ⊥
+  good_not_due : (words : List (List ℕ)) (files : Files) (refusal : Refusal) → AreInputsGood cards words files → IsRefusalDue cards words (Some files) refusal → ⊥
   good_not_due words files Usage good due = due (good.0, good.1)
   good_not_due words files (Description judged) good due = good_command words files good.0 due.0 judged good.2 due.2
 
   -- and a command that is refused has one refusal's status
-  same_status : (words : List (List ℕ)) (told : Option Files) (one other : Refusal) → IsDue cards words told one → IsDue cards words told other → refusal_status one ≡ refusal_status other
+  same_status : (words : List (List ℕ)) (told : Option Files) (one other : Refusal) → IsRefusalDue cards words told one → IsRefusalDue cards words told other → refusal_status one ≡ refusal_status other
   same_status words told Usage Usage h g = refl
   same_status words told Usage (Description judged) h g = absurd (h (g.0, g.1))
   same_status words told (Description judged) Usage h g = absurd (g (h.0, h.1))
   same_status words told (Description judged) (Description other) h g = refl
 
-  done_good : (words : List (List ℕ)) (old new : Files) → IsDone cards words old new → HasGoodInputs cards words old
+  done_good : (words : List (List ℕ)) (old new : Files) → IsDone cards words old new → AreInputsGood cards words old
   done_good words old new h = (h.0, h.1, h.2.0)
 
   -- what is answered where a refusal is due
-  pub answers_due : (words : List (List ℕ)) (status : ℕ) (told told' : Option Files) (refusal : Refusal) → Answers cards words status told told' → IsSomeAnd told (λ files. IsDue cards words (Some files) refusal) → IsOrMemory (refusal_status refusal) status
+  pub answers_due : (words : List (List ℕ)) (status : ℕ) (told told' : Option Files) (refusal : Refusal) → let call : Call = record { cards = cards; words = words; told = told } in IsAnswer call status told' → AsksRefusal call refusal → IsOrMemory (refusal_status refusal) status
   answers_due words status None told' refusal answers due = absurd due
-  answers_due words status (Some files) None refusal answers due = ⊎_elim (λ done. absurd done.2) (λ refused. inl (refused.status_is ∙ same_status words (Some files) refused.refusal refusal refused.due due)) answers
+  answers_due words status (Some files) None refusal answers due = ⊎_elim (λ done. absurd done.1.1) (λ refused. inl (refused.status_is ∙ same_status words (Some files) refused.refusal refusal refused.due due)) answers
   answers_due words status (Some files) (Some new) refusal answers due = ⊎_elim
-      (λ done. absurd (good_not_due words files refusal (done_good words files new done.2) due))
+      (λ done. absurd (good_not_due words files refusal (done_good words files new done.1.1) due))
       (λ refused. inl (refused.status_is ∙ same_status words (Some files) refused.refusal refusal refused.due due))
       answers
 
   -- and where the inputs are good
-  pub answers_good : (words : List (List ℕ)) (status : ℕ) (told told' : Option Files) → Answers cards words status told told' → IsSomeAnd told (HasGoodInputs cards words) → IsOrMemory 0 status
+  pub answers_good : (words : List (List ℕ)) (status : ℕ) (told told' : Option Files) → let call : Call = record { cards = cards; words = words; told = told } in IsAnswer call status told' → HasGoodInputs call → IsOrMemory 0 status
   answers_good words status None told' answers good = absurd good
   answers_good words status (Some files) told' answers good = ⊎_elim (λ done. inl done.0) (λ refused. absurd (good_not_due words files refused.refusal good refused.due)) answers
 

@@ -1,4 +1,5 @@
 pub mod Words
+pub mod Causes
 pub mod Changes
 pub mod Calls
 pub mod Fronts

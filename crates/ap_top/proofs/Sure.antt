@@ -1,10 +1,16 @@
 use Rattle.std.proofs.Common.{ℕ, List, [], ◌∷◌, Some, ⊎_elim, arith}
 use Rattle.ap_bits.specs.declared.card.Card.{Card}
 use Rattle.ap_desk.specs.Files.{Files}
+use Rattle.ap_desk.specs.declared.counts.Counts.{Counts}
 use Rattle.ap_desk.specs.Causes.{Rose}
 use Rattle.ap_top.specs.declared.command.Command.{Command}
 use Rattle.ap_top.specs.declared.command.Command.TheVariants.{Gen}
-use Rattle.ap_top.specs.Inputs.{Source, AreGood, LacksOne, FailsOn, HasGoodInputs, HasFailed, inputs_of, with_text}
+use Rattle.ap_top.specs.Calls.{Call}
+use Rattle.ap_top.specs.Inputs.{Source, AreGood, AreInputsGood, LacksOne, FailsOn, HasFailed, inputs_of, with_text}
+
+-- the counts of a desk on which no call fails
+abbrev without_faults : ℕ → Counts
+without_faults absent = record { faults = 0; absent = absent }
 
 module _ (cards : List Card) where
   -- inputs that are all there and without fault don't lack one
@@ -17,12 +23,12 @@ module _ (cards : List Card) where
   stays_zero : Rose 0 0 → ⊥
   stays_zero rose = absurd (omega arith)
 
-  fails_not : (files : Files) (sources : List Source) (absent absent' : ℕ) → AreGood cards files [] sources → FailsOn cards sources (Some files) 0 0 absent absent' → ⊥
+  fails_not : (files : Files) (sources : List Source) (absent absent' : ℕ) → AreGood cards files [] sources → FailsOn cards sources (Some files) (without_faults absent) (without_faults absent') → ⊥
   fails_not files sources absent absent' good failed = ⊎_elim stays_zero (λ h. none_lacks files [] sources good h.1) failed
 
   -- on a desk without faults, a command with good inputs doesn't fail
-  pub never_fails : (words : List (List ℕ)) (files : Files) (absent absent' : ℕ) → HasGoodInputs cards words files → HasFailed cards words (Some files) 0 0 absent absent' → ⊥
+  pub never_fails : (words : List (List ℕ)) (files : Files) (absent absent' : ℕ) → AreInputsGood cards words files → HasFailed (record { cards = cards; words = words; told = Some files }) (without_faults absent) (without_faults absent') → ⊥
   never_fails words files absent absent' good failed = ⊎_elim stays_zero (λ h. same_command good.0 h.0 good.2 h.2) failed
     where
-      same_command : (command other : Command) → AreGood cards files [] (inputs_of command words) → FailsOn cards (inputs_of other words) (Some files) 0 0 absent absent' → ⊥
+      same_command : (command other : Command) → AreGood cards files [] (inputs_of command words) → FailsOn cards (inputs_of other words) (Some files) (without_faults absent) (without_faults absent') → ⊥
       same_command Gen Gen good failed = fails_not files (inputs_of Gen words) absent absent' good failed

@@ -2,15 +2,7 @@
 use Rattle.std.proofs.Common.{◌≡◌, ℕ, zero, suc, ◌+◌, ◌-◌, ◌%◌, ◌^◌, ◌<◌, refl, sym, arith}
 use Rattle.ap_bits.proofs.TermValues.{term_values}
 use Rattle.ap_bits.specs.Cards.{operation_value}
-use Rattle.ap_top.specs.TestCards.{less_and_sum_card, less_card, even_sum_card, sum_or_less_value}
-
-pub subtracted : (w n a b : ℕ) → n < 1 → (a + 2 ^ w - b) % 2 ^ w ≡ operation_value less_card w n a b
-subtracted w zero a b lt = sym (simp term_values)
-subtracted w (suc n) a b lt = absurd (omega arith)
-
-pub added : (w n a b : ℕ) → n < 1 → (a + b) % 2 ^ w ≡ operation_value even_sum_card w n a b
-added w zero a b lt = sym (simp term_values)
-added w (suc n) a b lt = absurd (omega arith)
+use Rattle.ap_top.specs.TestCards.{less_and_sum_card, sum_or_less_value}
 
 pub chosen : (w n a b : ℕ) → n < 2 → sum_or_less_value w n a b ≡ operation_value less_and_sum_card w n a b
 chosen w zero a b lt = sym (simp term_values)

@@ -1,9 +1,10 @@
 -- The inputs of a command: which are there, which have a fault, and which of them is reached. They are taken in the command's order.
 -- Whether a description has a fault depends on the cards of the shelf.
-use Rattle.std.specs.Prelude.{◌≡◌, ◌⊎◌, ℕ, List, [], ◌∷◌, ◌++◌, drop, Option, None, Some, IfSome}
+use Rattle.std.specs.Prelude.{◌≡◌, ◌⊎◌, ℕ, List, [], ◌∷◌, ◌++◌, drop, Option, None, Some, IfSome, IsSomeAnd}
 use Rattle.std.specs.FinMap.{get}
 use Rattle.ap_bits.specs.declared.card.Card.{Card}
 use Rattle.ap_desk.specs.Files.{Files, content}
+use Rattle.ap_desk.specs.declared.counts.Counts.{Counts}
 use Rattle.ap_desk.specs.Causes.{Rose}
 use Rattle.ap_top.specs.declared.command.Input.{Input}
 use Rattle.ap_top.specs.declared.command.Input.TheVariants as input
@@ -12,6 +13,7 @@ use Rattle.ap_top.specs.declared.command.Command.{Command}
 use Rattle.ap_top.specs.declared.form.Form.{Form}
 use Rattle.ap_top.specs.declared.refusal.Refusal.{Refusal}
 use Rattle.ap_top.specs.declared.refusal.Refusal.TheVariants as refusal
+use Rattle.ap_top.specs.Calls.{Call}
 use Rattle.ap_top.specs.Commands.{Operand, IsCall, IsCommand, operands_of}
 use Rattle.ap_top.specs.Form.{IsDescription, HasJudgedFault}
 
@@ -71,18 +73,28 @@ IsDueOf cards sources told refusal.Usage = ⊥
 IsDueOf cards sources told refusal = IfSome told (λ files. RefusesOne cards files [] sources refusal)
 
 -- the refusal is due: the words are no command; or they are one and, where the desk tells, a reached input is refused so
-abbrev pub IsDue : List Card → List (List ℕ) → Option Files → Refusal → Type 0
-IsDue cards words told refusal.Usage = IsCommand words → ⊥
-IsDue cards words told refusal = (command : Command) × IsCall command words × IsDueOf cards (inputs_of command words) told refusal
+abbrev pub IsRefusalDue : List Card → List (List ℕ) → Option Files → Refusal → Type 0
+IsRefusalDue cards words told refusal.Usage = IsCommand words → ⊥
+IsRefusalDue cards words told refusal = (command : Command) × IsCall command words × IsDueOf cards (inputs_of command words) told refusal
+
+-- the same of a call, on a desk that tells its files
+abbrev pub AsksRefusal : Call → Refusal → Type 0
+AsksRefusal call refusal = IsSomeAnd call.told (λ files. IsRefusalDue call.cards call.words (Some files) refusal)
 
 -- the words are a command, every input of it is there, and none has a fault
-abbrev pub HasGoodInputs : List Card → List (List ℕ) → Files → Type 0
-HasGoodInputs cards words files = (command : Command) × IsCall command words × AreGood cards files [] (inputs_of command words)
+abbrev pub AreInputsGood : List Card → List (List ℕ) → Files → Type 0
+AreInputsGood cards words files = (command : Command) × IsCall command words × AreGood cards files [] (inputs_of command words)
+
+-- the same of a call, on a desk that tells its files
+abbrev pub HasGoodInputs : Call → Type 0
+HasGoodInputs call = IsSomeAnd call.told (AreInputsGood call.cards call.words)
 
 -- a call of the desk failed; or it missed a file and, where it tells, an input isn't there and each before it is there and has no fault
-abbrev pub FailsOn : List Card → List Source → Option Files → ℕ → ℕ → ℕ → ℕ → Type 0
-FailsOn cards sources told faults faults' absent absent' = Rose faults faults' ⊎ (Rose absent absent' × IfSome told (λ files. LacksOne cards files [] sources))
+abbrev pub FailsOn : List Card → List Source → Option Files → Counts → Counts → Type 0
+FailsOn cards sources told before after = Rose before.faults after.faults
+    ⊎ (Rose before.absent after.absent × IfSome told (λ files. LacksOne cards files [] sources))
 
 -- the desk failed in the call, by its counts before and after
-abbrev pub HasFailed : List Card → List (List ℕ) → Option Files → ℕ → ℕ → ℕ → ℕ → Type 0
-HasFailed cards words told faults faults' absent absent' = Rose faults faults' ⊎ ((command : Command) × IsCall command words × FailsOn cards (inputs_of command words) told faults faults' absent absent')
+abbrev pub HasFailed : Call → Counts → Counts → Type 0
+HasFailed call before after = Rose before.faults after.faults
+    ⊎ ((command : Command) × IsCall command call.words × FailsOn call.cards (inputs_of command call.words) call.told before after)

@@ -1,4 +1,5 @@
 pub mod Additions
+pub mod Calls
 pub mod Commands
 pub mod Form
 pub mod Found

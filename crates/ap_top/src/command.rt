@@ -124,7 +124,8 @@ fn are_apart(slots: &[Slot], words: &[String]) -> bool
 
 fn may_stand_before(slot: Slot, word: &str, slots: &[Slot], words: &[String]) -> bool
     requires { length slots.now ≡ length words.now }
-    ensures { IsTrue result ↔ Each (MayStandWith (slot, word.now)) (zip slots.now (map string_bytes words.now)) }
+    ensures { let others = zip slots.now (map string_bytes words.now) in
+        IsTrue result ↔ Each (MayStandWith (slot, word.now)) others }
 {
     for (i, other) in slots.iter().enumerate() {
         if !may_stand_with(slot, word, *other, words[i].as_str()) {

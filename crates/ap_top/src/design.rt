@@ -3,9 +3,9 @@ ghost use Rattle.ap_top.specs.Additions.{IsQuick};
 ghost use Rattle.ap_top.specs.Form.{IsForm};
 ghost use Rattle.ap_top.specs.DesignText.{IsDesignText};
 
-use crate::NoMemory;
 use crate::form::Form;
 use crate::machine::two_stage;
+use ap_bits::NoMemory;
 use ap_net::write::write;
 use ap_unit::UnitKind;
 use std::alloc::Global;

@@ -27,11 +27,14 @@ pub(crate) fn generate<D: Desk>(
     requires description { IsFileName description.now }
     requires verilog { IsFileName verilog.now }
     ensures done { let cards = cards_of card shelf.now in
-        OnOk result (Goes (FromGood cards Writes (gen_sources description.now) (gen_targets verilog.now)) (D.files desk.old) (D.files desk.new)) }
+        let step = FromGood cards Writes (gen_sources description.now) (gen_targets verilog.now) in
+        OnOk result (Goes step (D.files desk.old) (D.files desk.new)) }
     ensures stopped { let cards = cards_of card shelf.now in
-        IfErr result (StopsOn cards (gen_sources description.now) (gen_targets verilog.now) (D.files desk.old) (D.files desk.new)) }
+        let stops = StopsOn cards (gen_sources description.now) (gen_targets verilog.now) in
+        IfErr result (stops (D.files desk.old) (D.files desk.new)) }
     ensures cause { let cards = cards_of card shelf.now in
-        IsCaused desk_stop (FailsOn cards (gen_sources description.now) (D.files desk.old) (D.faults desk.old) (D.faults desk.new) (D.absent desk.old) (D.absent desk.new)) (D.faults desk.old) (D.faults desk.new) (D.absent desk.old) (D.absent desk.new) result }
+        let fails = FailsOn cards (gen_sources description.now) (D.files desk.old) in
+        IsCaused desk_stop fails (D.counts desk.old) (D.counts desk.new) result }
 {
     let text = read_all(alloc, desk, description, DESCRIPTION_LIMIT)?;
     let form = judge(alloc, &text, shelf)?;

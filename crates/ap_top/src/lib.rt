@@ -14,15 +14,5 @@ mod printing;
 pub mod refusal;
 pub mod serve;
 
-/// Memory ran out.
-#[derive(Clone, Copy, Debug, PartialEq, Eq)]
-pub struct NoMemory;
-
-impl From<ap_bits::NoMemory> for NoMemory {
-    fn from(_: ap_bits::NoMemory) -> NoMemory {
-        NoMemory
-    }
-}
-
 #[cfg(test)]
 mod tests;

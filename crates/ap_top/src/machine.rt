@@ -14,7 +14,7 @@ ghost use Rattle.ap_top.specs.Base.{registers_alone, base, IsPlaced, IsCircuit, 
 ghost use Rattle.ap_top.specs.Circuits.{nets_of};
 
 use crate::form::Form;
-use ap_net::NoMemory;
+use ap_bits::NoMemory;
 use ap_net::builder::Builder;
 use ap_net::cell::{Cell, TwoOp, Wire};
 use ap_net::module::{Module, Netlist};

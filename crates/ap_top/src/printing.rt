@@ -1,8 +1,7 @@
 ghost use Rattle.std.specs.Prelude.{◌≡◌, ◌≤◌, OnOk, OnErr};
-ghost use Rattle.ap_desk.specs.Causes.{Rose};
 ghost use Rattle.ap_desk.specs.Files.{Goes, Gains, GainsFront, stdout_name};
 ghost use Rattle.ap_top.specs.Refusals.{refusal_line, trouble_line, trouble_status};
-ghost use Rattle.ap_top.specs.Troubles.{IsCaused};
+ghost use Rattle.ap_top.specs.Troubles.{HasFaulted, IsCaused};
 
 use crate::refusal::{Refusal, Trouble};
 use ap_desk::desk::Desk;
@@ -18,9 +17,12 @@ pub(crate) fn print_line<D: Desk>(
     refusal: Refusal,
     desk: &mut D,
 ) -> Result<(), Trouble>
-    ensures ok { OnOk result (Goes (Gains stdout_name (refusal_line refusal)) (D.files desk.old) (D.files desk.new)) }
-    ensures err { OnErr result (Goes (GainsFront stdout_name (refusal_line refusal)) (D.files desk.old) (D.files desk.new)) }
-    ensures cause { IsCaused Trouble.Desk (Rose (D.faults desk.old) (D.faults desk.new)) (D.faults desk.old) (D.faults desk.new) (D.absent desk.old) (D.absent desk.new) result }
+    ensures ok { let line = refusal_line refusal in
+        OnOk result (Goes (Gains stdout_name line) (D.files desk.old) (D.files desk.new)) }
+    ensures err { let line = refusal_line refusal in
+        OnErr result (Goes (GainsFront stdout_name line) (D.files desk.old) (D.files desk.new)) }
+    ensures cause {
+        IsCaused Trouble.Desk HasFaulted (D.counts desk.old) (D.counts desk.new) result }
 {
     let line = match refusal.line(alloc) {
         Ok(line) => line,
@@ -33,9 +35,10 @@ pub(crate) fn print_line<D: Desk>(
 /// Tries once to print the line of a trouble, and gives the trouble's status.
 pub(crate) fn give_up<D: Desk>(trouble: Trouble, desk: &mut D) -> u8
     ensures status { result ≡ trouble_status trouble }
-    ensures line { Goes (GainsFront stdout_name (trouble_line trouble)) (D.files desk.old) (D.files desk.new) }
-    ensures faults { D.faults desk.old ≤ D.faults desk.new }
-    ensures absent { D.absent desk.old ≤ D.absent desk.new }
+    ensures line {
+        Goes (GainsFront stdout_name (trouble_line trouble)) (D.files desk.old) (D.files desk.new) }
+    ensures faults { (D.counts desk.old).faults ≤ (D.counts desk.new).faults }
+    ensures absent { (D.counts desk.new).absent ≡ (D.counts desk.old).absent }
 {
     let _ = desk.append(STDOUT, trouble.line().as_bytes());
     trouble.status()

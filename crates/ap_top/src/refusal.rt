@@ -4,8 +4,8 @@ ghost use Rattle.ap_top.specs.declared.refusal.Trouble.TheVariants.{Memory};
 ghost use Rattle.ap_top.specs.declared.refusal.Stop.TheVariants.{Broken};
 ghost use Rattle.ap_top.specs.Refusals.{fault_text, refusal_line, refusal_status, refusal_text, stop_of, trouble_line, trouble_of, trouble_status};
 
-use crate::NoMemory;
 use crate::form::{Judged, ReadFault};
+use ap_bits::NoMemory;
 use ap_desk::desk::DeskFault;
 use std::alloc::{AllocError, Global};
 use std::fmt;

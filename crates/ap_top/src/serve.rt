@@ -1,12 +1,13 @@
-ghost use Rattle.std.specs.Prelude.{◌≡◌, ◌≤◌, map, OnOk, OnErr, IfOk, IfErr, IsSomeAnd, Some};
+ghost use Rattle.std.specs.Prelude.{◌≡◌, ◌≢◌, ◌≤◌, map, OnOk, OnErr, IfOk, IfErr, Some};
 ghost use Rattle.std.specs.String.{string_bytes};
 ghost use Rattle.ap_desk.specs.Files.{Goes};
 ghost use Rattle.ap_unit.specs.Shelves.{cards_of};
+ghost use Rattle.ap_top.specs.Calls.{call_of};
 ghost use Rattle.ap_top.specs.Commands.{IsCommand};
-ghost use Rattle.ap_top.specs.Endings.{Answers, IsDone, Refuses, StopsShort, IsPartDone};
-ghost use Rattle.ap_top.specs.Inputs.{HasFailed, HasGoodInputs, IsDue};
+ghost use Rattle.ap_top.specs.Endings.{IsAnswer, IsCompleted, IsCutShort, IsDone, IsPartDone, Refuses};
+ghost use Rattle.ap_top.specs.Inputs.{AsksRefusal, HasFailed, HasGoodInputs};
 ghost use Rattle.ap_top.specs.Troubles.{IsCaused, StopsAs, desk_stop};
-ghost use Rattle.ap_top.specs.Refusals.{IsOrMemory, IsRefusalStatus, IsStatus, refusal_status, trouble_line, trouble_status};
+ghost use Rattle.ap_top.specs.Refusals.{IsOrMemory, IsRefusalStatus, IsStatus, IsTroubleStatus, refusal_status, trouble_status};
 
 use crate::command::{Command, command_of};
 use crate::generate::generate;
@@ -20,12 +21,12 @@ use std::alloc::Global;
 /// Does the command that the words are.
 fn run<D: Desk>(alloc: Global, words: &[String], shelf: &Shelf, desk: &mut D) -> Result<(), Stop>
     ensures command { OnOk result (IsCommand (map string_bytes words.now)) }
-    ensures done { let cards = cards_of card shelf.now in
-        OnOk result (Goes (IsDone cards (map string_bytes words.now)) (D.files desk.old) (D.files desk.new)) }
-    ensures stopped { let cards = cards_of card shelf.now in
-        IfErr result (StopsAs cards (map string_bytes words.now) (D.files desk.old) (D.files desk.new)) }
-    ensures cause { let cards = cards_of card shelf.now in
-        IsCaused desk_stop (HasFailed cards (map string_bytes words.now) (D.files desk.old) (D.faults desk.old) (D.faults desk.new) (D.absent desk.old) (D.absent desk.new)) (D.faults desk.old) (D.faults desk.new) (D.absent desk.old) (D.absent desk.new) result }
+    ensures done { let call = call_of (cards_of card shelf.now) words.now (D.files desk.old) in
+        OnOk result (Goes (IsDone call.cards call.words) call.told (D.files desk.new)) }
+    ensures stopped { let call = call_of (cards_of card shelf.now) words.now (D.files desk.old) in
+        IfErr result (StopsAs call.cards call.words call.told (D.files desk.new)) }
+    ensures cause { let call = call_of (cards_of card shelf.now) words.now (D.files desk.old) in
+        IsCaused desk_stop (HasFailed call) (D.counts desk.old) (D.counts desk.new) result }
 {
     match command_of(words) {
         None => Err(Stop::Refused(Refusal::Usage)),
@@ -40,12 +41,12 @@ fn answer<D: Desk>(
     shelf: &Shelf,
     desk: &mut D,
 ) -> Result<u8, Trouble>
-    ensures answered { let cards = cards_of card shelf.now in
-        IfOk result (λ status. Answers cards (map string_bytes words.now) status (D.files desk.old) (D.files desk.new)) }
-    ensures stopped { let cards = cards_of card shelf.now in
-        OnErr result (Goes (IsPartDone cards (map string_bytes words.now)) (D.files desk.old) (D.files desk.new)) }
-    ensures cause { let cards = cards_of card shelf.now in
-        IsCaused Trouble.Desk (HasFailed cards (map string_bytes words.now) (D.files desk.old) (D.faults desk.old) (D.faults desk.new) (D.absent desk.old) (D.absent desk.new)) (D.faults desk.old) (D.faults desk.new) (D.absent desk.old) (D.absent desk.new) result }
+    ensures answered { let call = call_of (cards_of card shelf.now) words.now (D.files desk.old) in
+        IfOk result (λ status. IsAnswer call status (D.files desk.new)) }
+    ensures stopped { let call = call_of (cards_of card shelf.now) words.now (D.files desk.old) in
+        OnErr result (Goes (IsPartDone call.cards call.words) call.told (D.files desk.new)) }
+    ensures cause { let call = call_of (cards_of card shelf.now) words.now (D.files desk.old) in
+        IsCaused Trouble.Desk (HasFailed call) (D.counts desk.old) (D.counts desk.new) result }
 {
     match run(alloc, words, shelf, desk) {
         Ok(()) => Ok(0),
@@ -62,34 +63,40 @@ fn answer<D: Desk>(
 ///
 /// 0: the command is done. 1: the words are no command. 2: the description has a fault, or asks for a unit that the shelf
 /// hasn't. 6: the desk failed, or an input isn't there. 7: memory ran out. For 1, 2, 6 and 7 a line on the file `-` says
-/// why.
+/// why. Where a call of the desk failed or missed its file, the answer is 6 or 7, and 7 only where it missed none.
 pub fn serve<D: Desk>(alloc: Global, words: &[String], shelf: &Shelf, desk: &mut D) -> u8
     ensures status { IsStatus result }
 
     // What each status says of the words, the files and the desk's counts.
-    ensures done { let cards = cards_of card shelf.now in
-        result ≡ 0 → IsCommand (map string_bytes words.now) × Goes (IsDone cards (map string_bytes words.now)) (D.files desk.old) (D.files desk.new) }
-    ensures refused { let cards = cards_of card shelf.now in
-        IsRefusalStatus result → Refuses cards (map string_bytes words.now) result (D.files desk.old) (D.files desk.new) }
-    ensures failed { let cards = cards_of card shelf.now in
-        result ≡ trouble_status Trouble.Desk → HasFailed cards (map string_bytes words.now) (D.files desk.old) (D.faults desk.old) (D.faults desk.new) (D.absent desk.old) (D.absent desk.new) }
-    ensures stopped { let cards = cards_of card shelf.now in
-        (trouble : Trouble) → result ≡ trouble_status trouble → Goes (StopsShort cards (map string_bytes words.now) (trouble_line trouble)) (D.files desk.old) (D.files desk.new) }
+    ensures done { let call = call_of (cards_of card shelf.now) words.now (D.files desk.old) in
+        result ≡ 0 → IsCompleted call (D.files desk.new) }
+    ensures refused { let call = call_of (cards_of card shelf.now) words.now (D.files desk.old) in
+        IsRefusalStatus result → Refuses call result (D.files desk.new) }
+    ensures failed { let call = call_of (cards_of card shelf.now) words.now (D.files desk.old) in
+        result ≡ trouble_status Trouble.Desk
+        → HasFailed call (D.counts desk.old) (D.counts desk.new) }
+    ensures stopped { let call = call_of (cards_of card shelf.now) words.now (D.files desk.old) in
+        (trouble : Trouble) → result ≡ trouble_status trouble
+        → IsCutShort call trouble (D.files desk.new) }
 
     // Which status comes where the desk didn't fail.
-    ensures usage { let cards = cards_of card shelf.now in
-        ¬ IsCommand (map string_bytes words.now)
-        → ¬ HasFailed cards (map string_bytes words.now) (D.files desk.old) (D.faults desk.old) (D.faults desk.new) (D.absent desk.old) (D.absent desk.new) → IsOrMemory 1 result }
-    ensures refuses { let cards = cards_of card shelf.now in
-        (refusal : Refusal) → IsSomeAnd (D.files desk.old) (λ told. IsDue cards (map string_bytes words.now) (Some told) refusal)
-        → ¬ HasFailed cards (map string_bytes words.now) (D.files desk.old) (D.faults desk.old) (D.faults desk.new) (D.absent desk.old) (D.absent desk.new) → IsOrMemory (refusal_status refusal) result }
-    ensures completes { let cards = cards_of card shelf.now in
-        IsSomeAnd (D.files desk.old) (HasGoodInputs cards (map string_bytes words.now))
-        → ¬ HasFailed cards (map string_bytes words.now) (D.files desk.old) (D.faults desk.old) (D.faults desk.new) (D.absent desk.old) (D.absent desk.new) → IsOrMemory 0 result }
+    ensures usage { let call = call_of (cards_of card shelf.now) words.now (D.files desk.old) in
+        ¬ IsCommand call.words
+        → ¬ HasFailed call (D.counts desk.old) (D.counts desk.new) → IsOrMemory 1 result }
+    ensures refuses { let call = call_of (cards_of card shelf.now) words.now (D.files desk.old) in
+        (refusal : Refusal) → AsksRefusal call refusal
+        → ¬ HasFailed call (D.counts desk.old) (D.counts desk.new)
+        → IsOrMemory (refusal_status refusal) result }
+    ensures completes { let call = call_of (cards_of card shelf.now) words.now (D.files desk.old) in
+        HasGoodInputs call
+        → ¬ HasFailed call (D.counts desk.old) (D.counts desk.new) → IsOrMemory 0 result }
 
-    // No count falls.
-    ensures faults { D.faults desk.old ≤ D.faults desk.new }
-    ensures absent { D.absent desk.old ≤ D.absent desk.new }
+    // No count falls. One rises only where the answer is 6 or 7, and the absent files only where it is 6.
+    ensures faults { (D.counts desk.old).faults ≤ (D.counts desk.new).faults }
+    ensures absent { (D.counts desk.old).absent ≤ (D.counts desk.new).absent }
+    ensures rises { D.counts desk.new ≢ D.counts desk.old → IsTroubleStatus result }
+    ensures memory { result ≡ trouble_status Trouble.Memory
+        → (D.counts desk.new).absent ≡ (D.counts desk.old).absent }
 {
     match answer(alloc, words, shelf, desk) {
         Ok(status) => status,
@@ -100,8 +107,7 @@ pub fn serve<D: Desk>(alloc: Global, words: &[String], shelf: &Shelf, desk: &mut
 /// The same on the desk in memory that never fails: a command whose inputs are there and without fault is done, or
 /// memory ran out.
 pub fn serve_on_sure_desk(alloc: Global, words: &[String], shelf: &Shelf, desk: &mut SureDesk) -> u8
-    requires { let cards = cards_of card shelf.now in
-        HasGoodInputs cards (map string_bytes words.now) desk.old.files }
+    requires { HasGoodInputs (call_of (cards_of card shelf.now) words.now (Some desk.old.files)) }
     ensures { IsOrMemory 0 result }
 {
     serve(alloc, words, shelf, desk)

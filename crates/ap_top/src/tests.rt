@@ -1,13 +1,12 @@
 mod kinds;
 
-use crate::addition::{Addition, find_addition};
 use crate::form::{Form, Judged, ReadFault, judge};
 use crate::serve::serve;
 use ap_desk::desk::Desk;
 use ap_desk::memory::{DeskCall, MemDesk};
 use ap_desk::sure::SureDesk;
 use ap_unit::{Shelf, UnitKind};
-use kinds::{EvenSum, Less, LessAndSum, empty_shelf, shelf_of};
+use kinds::{LessAndSum, empty_shelf, shelf_of};
 use std::alloc::{AllocError, Global};
 use std::test::Fail;
 
@@ -117,18 +116,6 @@ module top (
 fn a_text_begins_with_its_ports(rt: HostRuntime) -> Result<(), Fail> {
     let text = sure_text(rt.alloc(), accumulator().as_bytes())?.ok_or("no text")?;
     assert!(rt; text.starts_with(unit_and_head_of_top().as_bytes()));
-    Ok(())
-}
-
-#[test]
-fn a_description_gives_a_text(rt: HostRuntime) -> Result<(), Fail> {
-    let description = accumulator().as_bytes();
-    let text = sure_text(rt.alloc(), description)?.ok_or("no text")?;
-    let mut desk = desk_of(rt.alloc(), description)?;
-    let shelf = shelf_of(rt.alloc(), Box::new(rt.alloc(), LessAndSum)?)?;
-    assert_eq!(rt; status_of(rt.alloc(), "gen d v", &shelf, &mut desk), 0);
-    assert_eq!(rt; desk.file("-"), None);
-    assert_eq!(rt; desk.file("v"), Some(text.as_slice()));
     Ok(())
 }
 
@@ -423,37 +410,6 @@ fn lines_as_they_are_due(rt: HostRuntime) -> Result<(), Fail> {
     Ok(())
 }
 
-#[test]
-fn the_operation_that_adds(rt: HostRuntime) -> Result<(), Fail> {
-    let alloc = rt.alloc();
-    let second = Addition {
-        place: 0,
-        number: 1,
-    };
-    assert_eq!(rt;
-        find_addition(&shelf_of(alloc, Box::new(alloc, LessAndSum)?)?, 9),
-        Some(second)
-    );
-    assert_eq!(rt; find_addition(&empty_shelf(alloc)?, 8), None);
-    assert_eq!(rt;
-        find_addition(&shelf_of(alloc, Box::new(alloc, Less)?)?, 8),
-        None
-    );
-    let first = Addition {
-        place: 0,
-        number: 0,
-    };
-    assert_eq!(rt;
-        find_addition(&shelf_of(alloc, Box::new(alloc, EvenSum)?)?, 8),
-        Some(first)
-    );
-    assert_eq!(rt;
-        find_addition(&shelf_of(alloc, Box::new(alloc, EvenSum)?)?, 9),
-        None
-    );
-    Ok(())
-}
-
 /// The line that is printed where the shelf lacks what the line `unit` at line 6 asks for.
 const NO_UNIT: &str = "description: line 6: F0 NotBuilt\n";
 
@@ -462,17 +418,6 @@ fn shelves_without_the_unit(rt: HostRuntime) -> Result<(), Fail> {
     let alloc = rt.alloc();
     let text = accumulator().as_bytes();
     assert!(rt; is_refused(alloc, text, &empty_shelf(alloc)?, NO_UNIT)?);
-    assert!(rt;
-        is_refused(
-            alloc,
-            text,
-            &shelf_of(alloc, Box::new(alloc, Less)?)?,
-            NO_UNIT
-        )?
-    );
-    let wide = spelled(alloc, ["4", "8", "9", "3", "1", "250"])?;
-    let powers = shelf_of(alloc, Box::new(alloc, EvenSum)?)?;
-    assert!(rt; is_refused(alloc, wide.as_bytes(), &powers, NO_UNIT)?);
     let later = accumulator().replace(alloc, "unit U", "# adds\nunit U")?;
     assert!(rt;
         is_refused(
@@ -500,21 +445,3 @@ fn a_line_before_the_unit_comes_first(rt: HostRuntime) -> Result<(), Fail> {
     Ok(())
 }
 
-#[test]
-fn no_file_is_made_without_the_unit(rt: HostRuntime) -> Result<(), Fail> {
-    let mut desk = MemDesk::new(rt.alloc());
-    desk.put("d", accumulator().as_bytes())?;
-    let shelf = empty_shelf(rt.alloc())?;
-    assert_eq!(rt; status_of(rt.alloc(), "gen d v", &shelf, &mut desk), 2);
-    assert_eq!(rt; desk.file("v"), None);
-    assert_eq!(rt; desk.file("-"), Some(NO_UNIT.as_bytes()));
-    Ok(())
-}
-
-#[test]
-fn widths_that_the_unit_has(rt: HostRuntime) -> Result<(), Fail> {
-    let mut desk = desk_of(rt.alloc(), accumulator().as_bytes())?;
-    let shelf = shelf_of(rt.alloc(), Box::new(rt.alloc(), EvenSum)?)?;
-    assert_eq!(rt; status_of(rt.alloc(), "gen d v", &shelf, &mut desk), 0);
-    Ok(())
-}

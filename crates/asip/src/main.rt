@@ -12,6 +12,7 @@ use ap_desk::system::FileDesk;
 use ap_top::serve::serve;
 use ap_unit::{Shelf, UnitKind};
 use std::alloc::{AllocError, Global};
+use std::io::ErrorKind;
 use std::process::ExitCode;
 use std::rt::Env;
 use std::{env, io};
@@ -39,11 +40,17 @@ fn shelf_of(
     Ok(shelf)
 }
 
-/// The words after the program's name.
+/// The words after the program's name; none where one isn't UTF-8, since such words are no command, and no words are none.
 fn words(rt: &(impl Env + AllocGlobal)) -> io::Result<Vec<String>> {
     let mut words = Vec::new(rt.alloc());
-    for word in env::args(rt)?.skip(1) {
-        words.push(word)?;
+    match env::args(rt) {
+        Ok(args) => {
+            for word in args.skip(1) {
+                words.push(word)?;
+            }
+        }
+        Err(error) if error.kind() == ErrorKind::InvalidData => {}
+        Err(error) => return Err(error),
     }
     Ok(words)
 }

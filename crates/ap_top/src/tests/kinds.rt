@@ -2,7 +2,7 @@
 ghost use Rattle.std.specs.Prelude.{◌≡◌, ℕ, ◌≤◌, IfOk, OnOk};
 ghost use Rattle.ap_net.specs.Cells.{IsNet};
 ghost use Rattle.ap_net.specs.Draft.{CanFresh, Makes, SettlesDraft};
-ghost use Rattle.ap_top.specs.TestCards.{less_and_sum_card, less_card, even_sum_card, sum_or_less_value};
+ghost use Rattle.ap_top.specs.TestCards.{less_and_sum_card, sum_or_less_value};
 
 use ap_bits::{BinOp, NoMemory, binary};
 use ap_net::builder::Builder;
@@ -23,7 +23,9 @@ fn sum_or_less(out: &mut Builder, sel: Wire, a: Wire, b: Wire) -> Result<Wire, N
     requires low { 1 ≤ a.width }
     requires high { a.width ≤ 64 }
     ensures net { IfOk result (λ y. IsNet out.new.nets y × (y.width ≡ a.width)) }
-    ensures value { IfOk result (λ y. (read : ℕ → ℕ) → SettlesDraft out.new read → SettlesDraft out.old read × (read y.number ≡ sum_or_less_value a.width (read sel.number) (read a.number) (read b.number))) }
+    ensures value { IfOk result (λ y. (read : ℕ → ℕ) → SettlesDraft out.new read
+        → SettlesDraft out.old read × (read y.number
+            ≡ sum_or_less_value a.width (read sel.number) (read a.number) (read b.number))) }
     ensures makes { OnOk result (Makes out.old out.new) }
 {
     let less = out.make(a.width, Cell::Two(TwoOp::Sub, a, b))?;
@@ -71,86 +73,6 @@ impl UnitKind for LessAndSum {
     fn build(&self, w: u32, out: &mut Builder) -> Result<(), NoMemory> {
         let inputs = declare_inputs(out, 1, w)?;
         let y = sum_or_less(out, inputs.sel, inputs.a, inputs.b)?;
-        show_result(out, inputs, y)?;
-        Ok(())
-    }
-}
-
-/// It has `sub` alone.
-#[derive(Clone, Copy, Debug)]
-pub struct Less;
-
-#[tactic(auto, using(ap_unit::proofs::Laws::kind_cards))]
-impl UnitKind for Less {
-    ghost card = { λ _. less_card };
-
-    fn name(&self) -> &str {
-        "alu"
-    }
-
-    fn op_count(&self) -> u32 {
-        1
-    }
-
-    fn op_name(&self, _i: u32) -> &str {
-        "sub"
-    }
-
-    fn fits(&self, w: u32) -> bool {
-        (1..=64).contains(&w)
-    }
-
-    fn latency(&self, _w: u32) -> u32 {
-        1
-    }
-
-    fn value(&self, w: u32, _op: u32, a: u64, b: u64) -> u64 {
-        binary(BinOp::Sub, w, a, b)
-    }
-
-    fn build(&self, w: u32, out: &mut Builder) -> Result<(), NoMemory> {
-        let inputs = declare_inputs(out, 1, w)?;
-        let y = out.make(inputs.a.width, Cell::Two(TwoOp::Sub, inputs.a, inputs.b))?;
-        show_result(out, inputs, y)?;
-        Ok(())
-    }
-}
-
-/// It has `add` alone, and only widths that are powers of two.
-#[derive(Clone, Copy, Debug)]
-pub struct EvenSum;
-
-#[tactic(auto, using(ap_unit::proofs::Laws::kind_cards))]
-impl UnitKind for EvenSum {
-    ghost card = { λ _. even_sum_card };
-
-    fn name(&self) -> &str {
-        "alu"
-    }
-
-    fn op_count(&self) -> u32 {
-        1
-    }
-
-    fn op_name(&self, _i: u32) -> &str {
-        "add"
-    }
-
-    fn fits(&self, w: u32) -> bool {
-        matches!(w, 1 | 2 | 4 | 8 | 16 | 32 | 64)
-    }
-
-    fn latency(&self, _w: u32) -> u32 {
-        1
-    }
-
-    fn value(&self, w: u32, _op: u32, a: u64, b: u64) -> u64 {
-        binary(BinOp::Add, w, a, b)
-    }
-
-    fn build(&self, w: u32, out: &mut Builder) -> Result<(), NoMemory> {
-        let inputs = declare_inputs(out, 1, w)?;
-        let y = out.make(inputs.a.width, Cell::Two(TwoOp::Add, inputs.a, inputs.b))?;
         show_result(out, inputs, y)?;
         Ok(())
     }

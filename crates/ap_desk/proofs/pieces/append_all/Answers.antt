@@ -18,8 +18,7 @@ loop-at-preserved g c =
     record {
       within = omega arith;
       files = gains_more _ _ _ c.args.name.now c.args.text.now _ i e joined c.loop-at.invariant.files c.in_ok-append.ensures.ok;
-      faults = let h = c.in_ok-append.ensures.cause.faults_stay in omega arith;
-      absent = let h = c.in_ok-append.ensures.cause.absent_stays in omega arith;
+      counts = c.in_ok-append.ensures.cause ∙ c.loop-at.invariant.counts;
     }
 
 pub returns-clause-ok : goal.returns-clause-ok

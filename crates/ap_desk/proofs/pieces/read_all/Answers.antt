@@ -10,6 +10,5 @@ loop-piece-preserved g c =
       bound = let grown = c.in_ok-extend_from_slice.ensures.len in omega (arith, length-take c.in_ok-count.count c.read.new.into);
       same = c.in_ok-count.ensures.same ∙ c.loop-piece.invariant.same;
       front = front_more _ c.args.name.now c.loop-piece.bytes.items c.read.new.into _ c.len-in-loop-piece.result c.in_ok-count.count here c.loop-piece.invariant.front (rw c.loop-piece.invariant.same at c.in_ok-count.ensures.bytes) c.in_ok-extend_from_slice.ensures.items;
-      faults = let h = c.in_ok-count.ensures.cause.faults_stay in omega arith;
-      absent = let h = c.in_ok-count.ensures.cause.absent_stays in omega arith;
+      counts = c.in_ok-count.ensures.cause ∙ c.loop-piece.invariant.counts;
     }

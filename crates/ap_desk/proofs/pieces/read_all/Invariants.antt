@@ -7,8 +7,7 @@ invariant-loop-piece g l = record {
   bound : vec_len l.bytes ≤ l.limit + 4096;
   same : g.D.Desk.files l.desk ≡ g.D.Desk.files l.fn.desk;
   front : FrontWhereTold (g.D.Desk.files l.fn.desk) l.name l.bytes.items;
-  faults : g.D.Desk.faults l.fn.desk ≤ g.D.Desk.faults l.desk;
-  absent : g.D.Desk.absent l.fn.desk ≤ g.D.Desk.absent l.desk;
+  counts : g.D.Desk.counts l.desk ≡ g.D.Desk.counts l.fn.desk;
 }
 
 abbrev pub decreases-loop-piece : goal.decreases-loop-piece

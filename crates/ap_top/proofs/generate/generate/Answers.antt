@@ -1,8 +1,10 @@
 use Rattle.std.proofs.Common.{subst}
 use Rattle.std.proofs.lemmas.Result.{err_from_is_err_and}
+use Rattle.ap_top.specs.Generate.{gen_sources}
 use Rattle.ap_top.specs.Form.{IsDescription, IsReadFault}
 use Rattle.ap_unit.specs.Shelves.{cards_of}
 use Rattle.ap_top.proofs.Additions.{addition_of, addition_within, at_some, is_found}
+use Rattle.ap_top.proofs.Causes.{judging_never, kept, reading_gave_up, writing_gave_up}
 use Rattle.ap_top.proofs.Judging.{judged_stop, writing_stop, written}
 use Rattle.ap_top.proofs.generate.generate.Goals as goal
 
@@ -28,3 +30,18 @@ pub returns-clause-done : goal.returns-clause-done
 returns-clause-done g c =
     written _ _ _ _ c.args.description.now c.args.verilog.now c.in_ok-text.text.items c.deref-2.result.now c.in_ok-form.form c.read_all.ensures.same c.in_ok-text.ensures.whole
     (subst (λ t. IsDescription (cards_of (λ x. (goal.UnitKind-dyn g x).card x.1) c.args.shelf.now) t c.in_ok-form.form) c.deref.ensures.value c.in_ok-form.ensures.form) _ (addition_of _ _ _ _ _ (at_some _ _ _ c.unwrap-addition.ensures c.find_addition.ensures.some) c.kind-kind.ensures) (rw c.deref-2.ensures.value c.in_ok-design.ensures) c.in_ok-write_all.ensures.ok
+
+pub returns-in_err-text-clause-cause : goal.returns-in_err-text-clause-cause
+returns-in_err-text-clause-cause g c =
+    let p = err_from_is_err_and c.from_residual.result c.from_residual.ensures.1 in
+    rw (p.1, p.2) (reading_gave_up (cards_of (λ x. (goal.UnitKind-dyn g x).card x.1) c.args.shelf.now) (g.D.Desk.files c.args.desk.now) c.args.description.now _ _ c.in_err-text.field-0.0 c.in_err-text.ensures.cause c.in_err-text.ensures.missing)
+
+pub returns-in_err-form-clause-cause : goal.returns-in_err-form-clause-cause
+returns-in_err-form-clause-cause g c =
+    let p = err_from_is_err_and c.from_residual-in_err-form.result c.from_residual-in_err-form.ensures.1 in
+    rw (p.1, p.2) (kept _ _ _ _ _ c.in_ok-text.ensures.cause (judging_never c.in_err-form.field-0.0))
+
+pub returns-in_err-write_all-clause-cause : goal.returns-in_err-write_all-clause-cause
+returns-in_err-write_all-clause-cause g c =
+    let p = err_from_is_err_and c.from_residual-in_err-write_all.result c.from_residual-in_err-write_all.ensures.1 in
+    rw (p.1, p.2) (writing_gave_up (cards_of (λ x. (goal.UnitKind-dyn g x).card x.1) c.args.shelf.now) (gen_sources c.args.description.now) (g.D.Desk.files c.args.desk.now) _ _ _ c.in_err-write_all.field-0.0 c.in_ok-text.ensures.cause c.in_err-write_all.ensures.cause c.in_err-write_all.ensures.not_missing)
