@@ -1,12 +1,12 @@
 -- The edges of a stage are those of a list. So whether it has a loop is decided, and where it has one some line closes it.
-use Rattle.std.proofs.Common.{◌≡◌, ℕ, zero, suc, ◌+◌, ◌<◌, ◌≤◌, Bool, true, false, List, [], ◌∷◌, ◌++◌, Option, Some, None, inl, inr, refl, sym, subst, ap, ◌∙◌, arith, eqb-true, eq-eqb}
-use Rattle.std.specs.Prelude.{◌⊎◌, ◌↔◌, ◌==◌, Any, Contains, IsTrue, nat_le, nat_lt}
-use Rattle.std.proofs.lemmas.Bool.{cases_eq, cases_lt, cases_order, leb-true, le-leb, lt-ltb, ltb-true}
+use Rattle.std.proofs.Common.{◌≡◌, ℕ, zero, suc, ◌+◌, ◌<◌, ◌≤◌, Bool, true, List, [], ◌∷◌, ◌++◌, Option, Some, None, inl, inr, refl, sym, subst, ap, ◌∙◌, arith, eqb-true, eq-eqb}
+use Rattle.std.specs.Prelude.{◌⊎◌, ◌↔◌, ◌==◌, IsTrue, nat_le, nat_lt}
+use Rattle.std.proofs.lemmas.Bool.{cases_eq, cases_lt, leb-true, le-leb, lt-ltb, ltb-true}
 use Rattle.ap_desc.proofs.Comings.{nat_decided, true_decided, wired_listed}
 use Rattle.ap_desc.proofs.Listed.{Decided, Listed, listed_any, listed_by, listed_if, listed_like, listed_none, loop_decided}
-use Rattle.ap_desc.proofs.Loops.{loop_maps, edge_counts_more, looped_more}
+use Rattle.ap_desc.proofs.Loops.{edge_counts_more, looped_more}
 use Rattle.ap_desc.proofs.Members.{In, any_in, contains_in, in_any, in_contains, in_flat_map}
-use Rattle.ap_desc.specs.Chains.{ClosesLoop, Edge, HasLoop, IsLooped, IsWalk, IsWiredFrom, node_of, operands_of}
+use Rattle.ap_desc.specs.Chains.{ClosesLoop, Edge, IsLooped, IsWalk, IsWiredFrom, node_of, operands_of}
 use Rattle.ap_desc.specs.Ports.{micros_in}
 use Rattle.ap_desc.specs.declared.design.Design.{Design}
 use Rattle.ap_desc.specs.declared.design.Instr.{Instr}

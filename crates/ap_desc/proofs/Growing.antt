@@ -1,11 +1,11 @@
 -- What lines declare and what the next line may name, line after line.
-use Rattle.std.proofs.Common.{◌≡◌, ℕ, zero, suc, ◌<◌, ◌≤◌, ◌+◌, ◌==◌, Bool, true, false, if◌then◌else◌, List, [], ◌∷◌, ◌++◌, map, fold, Option, Some, None, inl, inr, refl, sym, subst, ap, ◌∙◌, arith, append_assoc, append-nil, flat_map}
-use Rattle.std.specs.Prelude.{◌⊎◌, ◌&&◌, not, IsTrue, option_and_then, option_map, option_to_list}
-use Rattle.std.specs.List.{AllByRecursion as Each, filter_map, list_any}
-use Rattle.std.proofs.lemmas.Bool.{and_parts, both_ways, cases_Bool, eqb-true}
+use Rattle.std.proofs.Common.{◌≡◌, ℕ, ◌<◌, ◌≤◌, ◌==◌, Bool, true, false, if◌then◌else◌, List, [], ◌∷◌, ◌++◌, map, Option, Some, None, inl, inr, refl, sym, subst, ap, ◌∙◌, arith, append_assoc, append-nil}
+use Rattle.std.specs.Prelude.{option_and_then, option_map, option_to_list}
+use Rattle.std.specs.List.{AllByRecursion as Each, filter_map}
+use Rattle.std.proofs.lemmas.Bool.{and_parts, eqb-true}
 use Rattle.std.proofs.lemmas.List.Concat.{flat_map-append}
 use Rattle.std.proofs.lemmas.List.Elements.{filter_map-append}
-use Rattle.std.proofs.lemmas.List.Sums.{fold-append, fold_push}
+use Rattle.std.proofs.lemmas.List.Sums.{fold_push}
 use Rattle.ap_bits.specs.declared.card.Card.{Card}
 use Rattle.ap_desc.proofs.Members.{In, in_left, in_right}
 use Rattle.ap_desc.proofs.InOrder.{IsDue, HasBegun, due_at, earlier_sections, header_first, micro_has_begun, no_blocks, said_by, section_most}
@@ -13,7 +13,7 @@ use Rattle.ap_desc.specs.Declarations.{address_said, all_said, all_said_at, bran
 use Rattle.ap_desc.specs.Descriptions.{IsDescription}
 use Rattle.ap_desc.specs.Designs.{local_width, widths_of}
 use Rattle.ap_desc.specs.Instructions.{Block, act_of, arg_of, assigned_name, begun, block_after, blocks_of, each_after, local_names, micro_of, micros_of, with_line}
-use Rattle.ap_desc.specs.Order.{is_header, is_late_for, is_micro, section}
+use Rattle.ap_desc.specs.Order.{is_micro, section}
 use Rattle.ap_desc.specs.Parts.{fields_named}
 use Rattle.ap_desc.specs.Scope.{Scope, open_fields, open_lines, scope_after, scope_with, with_declared, with_micro, with_outer}
 use Rattle.ap_desc.specs.declared.description.Numbered.{Numbered}

@@ -1,13 +1,12 @@
 -- What stands before a statement of a description: no later section, and an instruction where the statement is a line of one.
-use Rattle.std.proofs.Common.{◌≡◌, ℕ, zero, suc, ◌<◌, ◌≤◌, ◌+◌, Bool, true, false, if◌then◌else◌, List, [], ◌∷◌, ◌++◌, map, fold, Option, Some, None, inl, inr, refl, sym, subst, ap, ◌∙◌, arith, append_assoc, append-nil}
-use Rattle.std.specs.Prelude.{◌⊎◌, ◌==◌, ◌&&◌, ◌||◌, not, nat_le, nat_lt, IsTrue}
-use Rattle.std.specs.List.{AllByRecursion as Each, filter_map, list_any}
-use Rattle.std.proofs.lemmas.Bool.{and_parts, both_ways, leb-false, ltb-false, not-true, or_parts, cases_Bool, cond_both}
+use Rattle.std.proofs.Common.{◌≡◌, ◌<◌, ◌≤◌, Bool, true, false, if◌then◌else◌, List, [], ◌∷◌, ◌++◌, map, fold, inl, inr, refl, sym, subst, ap, ◌∙◌, arith, append_assoc, append-nil}
+use Rattle.std.specs.Prelude.{◌⊎◌, ◌&&◌, ◌||◌, not, nat_le, nat_lt}
+use Rattle.std.specs.List.{AllByRecursion as Each, list_any}
+use Rattle.std.proofs.lemmas.Bool.{and_parts, both_ways, leb-false, ltb-false, not-true, or_parts}
 use Rattle.std.proofs.lemmas.List.{map-append}
-use Rattle.ap_desc.specs.Declarations.{address_said, branch_said, slots_said, stages_said, word_said, transfer_line_said, all_said, all_said_at}
 use Rattle.ap_desc.specs.Descriptions.{IsDescription}
 use Rattle.ap_desc.specs.Instructions.{Block, begun, block_after, blocks_of, with_line}
-use Rattle.ap_desc.specs.Order.{are_in_order, inside_after, is_end, is_header, is_inside, is_instr, is_late_for, is_micro, is_misplaced, is_one_too_many, is_out_of_order, section}
+use Rattle.ap_desc.specs.Order.{are_in_order, inside_after, is_end, is_header, is_inside, is_late_for, is_micro, is_misplaced, is_one_too_many, is_out_of_order, section}
 use Rattle.ap_desc.specs.declared.description.Numbered.{Numbered}
 use Rattle.ap_desc.specs.declared.statement.Statement.{Statement}
 use Rattle.ap_desc.specs.declared.statement.Statement.TheVariants as s

@@ -1,6 +1,6 @@
 -- A file's cells are two to the power of its index bits.
-use Rattle.std.proofs.Common.{◌≡◌, ℕ, ◌+◌, ◌*◌, ◌^◌, ◌<◌, ◌≤◌, Bool, true, false, List, [], ◌∷◌, length, Some, inl, inr, refl, sym, ap, ◌∙◌, arith, leb-true, eqb-true, eq-eqb, pow_pos, pow_mono}
-use Rattle.std.specs.Prelude.{◌↔◌, ◌&&◌, ◌||◌, nat_le, Contains, IsTrue, slice_get}
+use Rattle.std.proofs.Common.{◌≡◌, ℕ, ◌+◌, ◌*◌, ◌^◌, ◌<◌, ◌≤◌, true, List, [], ◌∷◌, length, Some, inl, inr, refl, sym, ap, ◌∙◌, arith, leb-true, eqb-true, eq-eqb, pow_pos, pow_mono}
+use Rattle.std.specs.Prelude.{◌↔◌, ◌&&◌, nat_le, Contains, IsTrue, slice_get}
 use Rattle.std.specs.List.{AllByRecursion as Each, list_all, list_any}
 use Rattle.std.specs.Option.{option_map_or}
 use Rattle.std.proofs.lemmas.Bool.{and_parts, cases_order, or_cases}

@@ -1,11 +1,11 @@
 -- The lines of a design stand in the order of their numbers.
-use Rattle.std.proofs.Common.{◌≡◌, ℕ, zero, suc, ◌<◌, ◌≤◌, List, [], ◌∷◌, ◌++◌, map, Option, Some, None, inl, inr, refl, sym, subst, ap, ◌∙◌, arith, flat_map}
+use Rattle.std.proofs.Common.{◌≡◌, ℕ, zero, suc, ◌<◌, ◌≤◌, List, [], ◌∷◌, ◌++◌, map, Some, inl, inr, sym, subst, ap, ◌∙◌, arith, flat_map}
 use Rattle.std.specs.Prelude.{◌↔◌, ◌⊎◌, Contains, slice_get, option_map}
 use Rattle.std.proofs.lemmas.Bool.{cases_order}
 use Rattle.std.proofs.lemmas.List.{map-append}
 use Rattle.std.proofs.lemmas.Option.{same_Some, slice_get-map}
 use Rattle.ap_desc.proofs.Members.{In, contains_in}
-use Rattle.ap_desc.specs.Designs.{Rise, lines_in}
+use Rattle.ap_desc.specs.Designs.{Rise}
 use Rattle.ap_desc.specs.Ports.{micros_in}
 use Rattle.ap_desc.specs.Sound.{IsSound}
 use Rattle.ap_desc.specs.declared.design.Design.{Design}

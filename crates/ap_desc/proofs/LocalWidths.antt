@@ -3,7 +3,7 @@ use Rattle.std.proofs.Common.{◌≡◌, ℕ, zero, suc, ◌+◌, ◌<◌, List,
 use Rattle.std.specs.Prelude.{slice_get, option_to_list}
 use Rattle.std.specs.List.{filter_map, cons_option}
 use Rattle.std.specs.Option.{option_map_or}
-use Rattle.ap_desc.specs.Designs.{AreInRange, IsArg, IsInRange, IsInstr, arg_width, assigned_count, local_width, widths_of}
+use Rattle.ap_desc.specs.Designs.{AreInRange, IsArg, IsInRange, IsInstr, arg_width, assigned_count, local_width}
 use Rattle.ap_desc.specs.declared.design.Design.{Design}
 use Rattle.ap_desc.specs.declared.design.Field.{Field}
 use Rattle.ap_desc.specs.declared.design.Instr.{Instr}

@@ -1,5 +1,5 @@
 -- Elements of lists: what holds of each holds of one that is there, and one that is there stands somewhere.
-use Rattle.std.proofs.Common.{◌≡◌, ℕ, zero, suc, ◌<◌, ◌++◌, List, [], ◌∷◌, Option, Some, None, inl, inr, refl, sym, subst, arith, flat_map}
+use Rattle.std.proofs.Common.{◌≡◌, ℕ, zero, suc, ◌++◌, List, [], ◌∷◌, Option, Some, None, inl, inr, refl, sym, subst, arith, flat_map}
 use Rattle.std.specs.Prelude.{◌⊎◌, Any, Contains, IsSomeAnd, slice_get}
 use Rattle.std.specs.List.{AllByRecursion as Each}
 use Rattle.std.proofs.lemmas.List.Elements.{All-contains, All-from_recursion}

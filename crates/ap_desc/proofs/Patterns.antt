@@ -1,16 +1,14 @@
 -- Patterns of instructions: a fixed value lies in its mask and the mask in the word, and patterns that agree share a word.
-use Rattle.std.proofs.Common.{◌≡◌, ℕ, zero, suc, ◌+◌, ◌-◌, ◌*◌, ◌%◌, ◌^◌, ◌<◌, ◌≤◌, Bool, true, false, if◌then◌else◌, List, [], ◌∷◌, Option, Some, None, min, max, refl, ap, sym, subst, ◌∙◌, arith, pow_mono, pow_pos, lt_of_lt_of_le, leb-true, ltb-true, mod-eq_of_lt, mul-le-mul_right, sum_by}
-use Rattle.std.specs.Prelude.{bit_and, bit_or, zip, slice_get, IsSomeAnd, Contains, ◌&&◌, ◌↔◌, nat_le, nat_lt}
+use Rattle.std.proofs.Common.{◌≡◌, ℕ, suc, ◌+◌, ◌-◌, ◌*◌, ◌^◌, ◌<◌, ◌≤◌, Bool, true, false, if◌then◌else◌, List, [], ◌∷◌, Option, Some, None, min, max, refl, ap, sym, subst, ◌∙◌, arith, pow_mono, pow_pos, leb-true, ltb-true, mod-eq_of_lt, mul-le-mul_right, sum_by}
+use Rattle.std.specs.Prelude.{bit_and, bit_or, zip, slice_get, Contains, ◌↔◌, nat_le, nat_lt}
 use Rattle.std.specs.Int.{bit_at}
-use Rattle.std.specs.List.{AllByRecursion as Each}
-use Rattle.std.specs.Option.{option_map_or}
 use Rattle.std.proofs.lemmas.Bool.{and_parts}
 use Rattle.std.proofs.lemmas.List.Sums.{sum_by-cons}
 use Rattle.std.proofs.lemmas.Nat.{pow-add}
 use Rattle.std.proofs.lemmas.Nat.Bits.{bit_at_and, bit_at_or, same_from_bits}
 use lib.Bits.{and_block, and_mask, or_lt, and_le_r}
 use Rattle.ap_desc.proofs.Members.{each_contained, each_get, some_and}
-use Rattle.ap_desc.specs.Designs.{ArePlaced, IsInstr, IsRight, Matches, is_counted, mask_bits, value_bits}
+use Rattle.ap_desc.specs.Designs.{ArePlaced, IsInstr, IsRight, is_counted, mask_bits, value_bits}
 use Rattle.ap_desc.specs.Patterns.{Agree, LiesInWord, ShareWord}
 use Rattle.ap_desc.specs.Sound.{IsSound}
 use Rattle.ap_desc.specs.declared.design.Design.{Design}

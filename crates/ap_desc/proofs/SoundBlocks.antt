@@ -1,6 +1,6 @@
 -- The instructions of a description without fault, as its text has them: each of their lines has none in the scope of those before it.
-use Rattle.std.proofs.Common.{◌≡◌, ℕ, zero, suc, ◌<◌, ◌≤◌, ◌+◌, Bool, true, false, cond, if◌then◌else◌, fold, List, [], ◌∷◌, ◌++◌, map, length, Option, Some, None, inl, inr, refl, sym, subst, ap, ◌∙◌, arith, append_assoc, append-nil, length-append}
-use Rattle.std.specs.Prelude.{◌⊎◌, ◌&&◌, ◌||◌, ◌==◌, not, IsTrue}
+use Rattle.std.proofs.Common.{◌≡◌, ℕ, suc, ◌≤◌, ◌+◌, Bool, true, false, cond, if◌then◌else◌, List, [], ◌∷◌, ◌++◌, map, length, inl, inr, refl, sym, subst, ap, ◌∙◌, arith, append_assoc, append-nil, length-append}
+use Rattle.std.specs.Prelude.{◌⊎◌, ◌==◌, not}
 use Rattle.std.specs.List.{AllByRecursion as Each, count_by, list_any}
 use Rattle.std.proofs.lemmas.Bool.{and_from, and_parts, both_ways, cases_eq, eq-eqb, not-true, not_from_false, or_parts}
 use Rattle.std.proofs.lemmas.List.{map-append}
@@ -19,7 +19,7 @@ use Rattle.ap_desc.specs.NameFaults.{is_missing}
 use Rattle.ap_desc.specs.Order.{is_end, is_instr, is_micro, is_one_too_many, micro_count, micros_after, section}
 use Rattle.ap_desc.specs.Parts.{fields_named, format_names, names_of_fields}
 use Rattle.ap_desc.specs.Reserved.{is_among, is_free_name}
-use Rattle.ap_desc.specs.Scope.{Scope, open_lines, scope_after}
+use Rattle.ap_desc.specs.Scope.{Scope, open_lines}
 use Rattle.ap_desc.specs.Sound.{are_distinct}
 use Rattle.ap_desc.specs.Spelling.{field_names}
 use Rattle.ap_desc.specs.StatementFaults.{HasStatementFault, is_faulty}

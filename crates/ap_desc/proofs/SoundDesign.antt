@@ -1,5 +1,5 @@
 -- A description without fault of names and widths describes a sound design of the cards.
-use Rattle.std.proofs.Common.{◌≡◌, ℕ, zero, suc, ◌<◌, ◌≤◌, ◌+◌, Bool, true, false, List, [], ◌∷◌, ◌++◌, map, reverse, length, Option, Some, None, inl, inr, refl, sym, subst, ap, ◌∙◌, arith, append_assoc, append-nil, flat_map, le-leb, leb-true}
+use Rattle.std.proofs.Common.{◌≡◌, ℕ, ◌≤◌, ◌+◌, Bool, true, List, [], ◌∷◌, ◌++◌, map, reverse, length, Some, refl, sym, subst, ap, ◌∙◌, arith, flat_map, le-leb, leb-true}
 use Rattle.std.specs.Prelude.{◌&&◌, ◌||◌, not, nat_le, codes, slice_get, IsSomeAnd, IsTrue, option_to_list}
 use Rattle.std.specs.List.{AllByRecursion as Each, list_all, list_any}
 use Rattle.std.specs.Option.{option_map_or}
@@ -11,10 +11,10 @@ use Rattle.ap_desc.proofs.InOrder.{said_by}
 use Rattle.ap_desc.proofs.LocalWidths.{widths_on}
 use Rattle.ap_desc.proofs.Members.{each_get}
 use Rattle.ap_desc.proofs.Named.{any_reverse, at_place, distinct_reverse, named_there}
-use Rattle.ap_desc.proofs.SoundBlocks.{AreRightLines, IsRightBlock, Stands, all_stands}
+use Rattle.ap_desc.proofs.SoundBlocks.{IsRightBlock, Stands, all_stands}
 use Rattle.ap_desc.proofs.SoundInstrs.{AreLines, all_lines, block_few}
 use Rattle.ap_desc.proofs.SoundNames.{each_map, formats_once, free_formats, free_parts, nop_begun, parts_once}
-use Rattle.ap_desc.proofs.SoundOrder.{block_lines, design_rises, instr_lines}
+use Rattle.ap_desc.proofs.SoundOrder.{block_lines, design_rises}
 use Rattle.ap_desc.proofs.SoundParts as p
 use Rattle.ap_desc.proofs.SoundWidths.{HasWidths, arg_width_other, has_widths_other, in_range_other, local_width_other, widths_alike}
 use Rattle.ap_desc.proofs.Splits.{each_append, each_list_all}
@@ -22,10 +22,10 @@ use Rattle.ap_desc.specs.Chains.{operands_of}
 use Rattle.ap_desc.specs.Declarations.{declarations}
 use Rattle.ap_desc.specs.Descriptions.{IsDescription}
 use Rattle.ap_desc.specs.DesignOf.{design_of}
-use Rattle.ap_desc.specs.Designs.{AreInRange, IsInstr, IsRight, IsWithinLimits, Rise, arg_width, assigned_count, lines_in, local_width, names_in, is_address_width, is_between, is_cell_count, is_field_width, is_file_within, is_format_within, is_instr_within, is_mem_within, is_named_nop, is_reg_within, is_stage, is_width, has_bits, widths_of}
+use Rattle.ap_desc.specs.Designs.{AreInRange, IsInstr, IsRight, IsWithinLimits, Rise, arg_width, assigned_count, lines_in, local_width, names_in, is_between, is_cell_count, is_field_width, is_file_within, is_format_within, is_instr_within, is_mem_within, is_named_nop, is_reg_within, is_stage, is_width, has_bits, widths_of}
 use Rattle.ap_desc.specs.Instructions.{Block, blocks_of, fixed_of, instr_of, micros_of}
 use Rattle.ap_desc.specs.Least.{HoldsNowhere}
-use Rattle.ap_desc.specs.Order.{has_section, is_inside, is_nop}
+use Rattle.ap_desc.specs.Order.{is_inside, is_nop}
 use Rattle.ap_desc.specs.Parts.{fields_named, format_names, named, names_of_fields, place_of}
 use Rattle.ap_desc.specs.Reserved.{is_free_name}
 use Rattle.ap_desc.specs.Shelf.{HasOperation, IsOfCard, IsOfCards}

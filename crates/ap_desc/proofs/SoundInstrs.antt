@@ -1,37 +1,27 @@
 -- The instructions of a description without fault: their lines are in range and of the cards, and have the widths that they need.
-use Rattle.std.proofs.Common.{◌≡◌, ℕ, zero, suc, ◌<◌, ◌≤◌, ◌+◌, Bool, true, false, fold, List, [], ◌∷◌, ◌++◌, map, length, Option, Some, None, inl, inr, refl, sym, subst, ap, ◌∙◌, arith, append_assoc, append-nil, length-append, le-leb}
-use Rattle.std.specs.Prelude.{◌&&◌, ◌||◌, ◌==◌, not, nat_le, nat_lt, slice_get, IfSome, IsSomeAnd, IsTrue, option_map, option_to_list}
-use Rattle.std.specs.List.{AllByRecursion as Each, list_all}
+use Rattle.std.proofs.Common.{◌≡◌, ℕ, ◌≤◌, ◌+◌, Bool, true, false, List, [], ◌∷◌, ◌++◌, map, length, Some, inl, inr, refl, sym, subst, ap, ◌∙◌, arith, length-append}
+use Rattle.std.specs.Prelude.{◌&&◌, ◌==◌, not, IfSome, option_map, option_to_list}
+use Rattle.std.specs.List.{AllByRecursion as Each}
 use Rattle.std.specs.Option.{option_map_or}
-use Rattle.std.proofs.lemmas.Bool.{and_from, and_parts, both_ways, cases_eq, eq-eqb, not-false, or_parts}
-use Rattle.std.proofs.lemmas.List.{length-map}
+use Rattle.std.proofs.lemmas.Bool.{both_ways, cases_eq, eq-eqb, not-false, or_parts}
 use Rattle.std.proofs.lemmas.List.Sums.{fold_push}
 use Rattle.ap_bits.specs.declared.card.Card.{Card}
 use Rattle.ap_desc.proofs.Growing.{locals_push, micros_push}
 use Rattle.ap_desc.proofs.LocalWidths.{assigned_length, widths_extend, widths_on}
-use Rattle.ap_desc.proofs.Members.{each_get}
-use Rattle.ap_desc.proofs.Named.{at_place, named_there}
-use Rattle.ap_desc.proofs.SoundBlocks.{AreRightLines, IsRightBlock, IsRightLine, scope_for}
+use Rattle.ap_desc.proofs.SoundBlocks.{AreRightLines, IsRightLine, scope_for}
 use Rattle.ap_desc.proofs.SoundLines.{line_acts, line_operation, line_range}
-use Rattle.ap_desc.proofs.SoundWidths.{HasWidths, arg_width_other, has_widths_other, has_widths_stays, in_range_other, local_is_width, local_width_other, micro_range, micro_wide, none_of_widths}
-use Rattle.ap_desc.proofs.Splits.{each_append, each_list_all}
-use Rattle.ap_desc.specs.Chains.{operands_of}
-use Rattle.ap_desc.specs.Designs.{AreInRange, IsInRange, IsInstr, IsRight, arg_width, assigned_count, is_instr_within, is_stage, is_width, local_width, widths_of}
-use Rattle.ap_desc.specs.Instructions.{Block, act_of, arg_of, assigned_name, each_after, fixed_of, instr_of, local_names, micro_of, micros_of, stage_of}
-use Rattle.ap_desc.specs.Order.{is_micro}
-use Rattle.ap_desc.specs.Parts.{fields_named, format_names, named, place_of}
+use Rattle.ap_desc.proofs.SoundWidths.{HasWidths, has_widths_stays, local_is_width, micro_range, micro_wide, none_of_widths}
+use Rattle.ap_desc.proofs.Splits.{each_append}
+use Rattle.ap_desc.specs.Designs.{AreInRange, IsInRange, arg_width, assigned_count, is_stage, is_width, local_width, widths_of}
+use Rattle.ap_desc.specs.Instructions.{act_of, arg_of, assigned_name, each_after, local_names, micro_of, micros_of, stage_of}
 use Rattle.ap_desc.specs.Scope.{Scope}
 use Rattle.ap_desc.specs.Shelf.{HasOperation, IsOfCard}
-use Rattle.ap_desc.specs.Sound.{IsTyped, are_lines_typed}
 use Rattle.ap_desc.specs.Widths.{differs, has_bad_width, has_widths, is_bad_slice, is_no_target, is_not_one_bit, is_wide_constant}
 use Rattle.ap_desc.specs.WidthFaults.{does, is_beyond, width_in}
 use Rattle.ap_desc.specs.declared.description.Numbered.{Numbered}
 use Rattle.ap_desc.specs.declared.design.Design.{Design}
-use Rattle.ap_desc.specs.declared.design.Format.{Format}
 use Rattle.ap_desc.specs.declared.design.Field.{Field}
-use Rattle.ap_desc.specs.declared.design.Instr.{Instr}
 use Rattle.ap_desc.specs.declared.design.Micro.{Micro}
-use Rattle.ap_desc.specs.declared.design.Arg.{Arg}
 use Rattle.ap_desc.specs.declared.design.Act.{Act}
 use Rattle.ap_desc.specs.declared.fault.Fault.TheVariants as f
 

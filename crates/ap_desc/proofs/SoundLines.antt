@@ -1,18 +1,18 @@
 -- A line of an instruction without fault, in the scope of those before it: what it does is in range, of the cards, and has its widths.
-use Rattle.std.proofs.Common.{◌≡◌, ℕ, zero, suc, ◌<◌, ◌≤◌, ◌+◌, ◌-◌, Bool, true, false, if◌then◌else◌, List, [], ◌∷◌, ◌++◌, map, length, Option, Some, None, inl, inr, refl, sym, subst, ap, ◌∙◌, arith, ltb-true, leb-true}
-use Rattle.std.specs.Prelude.{◌&&◌, ◌||◌, not, nat_lt, nat_le, slice_get, IfSome, IsSomeAnd, IsTrue, option_map, option_and_then, option_to_list, find}
+use Rattle.std.proofs.Common.{◌≡◌, ℕ, ◌<◌, Bool, true, false, if◌then◌else◌, List, length, Option, Some, None, inl, inr, refl, sym, subst, ap, ◌∙◌, ltb-true}
+use Rattle.std.specs.Prelude.{◌||◌, not, nat_lt, slice_get, IfSome, IsSomeAnd, option_map, option_and_then}
 use Rattle.std.specs.Option.{option_map_or}
-use Rattle.std.proofs.lemmas.Bool.{and_cases, both_ways, cases_Bool, not-false, or_parts}
+use Rattle.std.proofs.lemmas.Bool.{and_cases, both_ways, not-false, or_parts}
 use Rattle.ap_bits.specs.Cards.{operation_names}
 use Rattle.ap_bits.specs.declared.card.Card.{Card}
 use Rattle.ap_bits.specs.declared.card.OpCard.{OpCard}
 use Rattle.ap_desc.proofs.Members.{each_get, some_and}
 use Rattle.ap_desc.proofs.Named.{at_place, named_there, place_below, place_if, there_if}
-use Rattle.ap_desc.specs.Designs.{IsArg, IsInRange, IsReadPort, IsWritePort, assigned_count}
+use Rattle.ap_desc.specs.Designs.{IsArg, IsInRange, assigned_count}
 use Rattle.ap_desc.specs.Instructions.{act_of, arg_of, assigned_name, operation_place}
 use Rattle.ap_desc.specs.NameFaults.{is_missing, is_no_guard, is_no_operand, is_no_operation, is_no_read_port, is_no_write_port, is_unknown}
 use Rattle.ap_desc.specs.Order.{is_micro}
-use Rattle.ap_desc.specs.Parts.{card_of_unit, file_named, file_names, input_names, mem_names, named, names_of_fields, place_of, reg_names, unit_named, unit_names}
+use Rattle.ap_desc.specs.Parts.{card_of_unit, file_named, file_names, mem_names, names_of_fields, place_of, reg_names, unit_names}
 use Rattle.ap_desc.specs.Reserved.{is_among}
 use Rattle.ap_desc.specs.Scope.{Scope}
 use Rattle.ap_desc.specs.Shelf.{HasOperation, IsOfCard}
@@ -26,7 +26,6 @@ use Rattle.ap_desc.specs.declared.design.Field.{Field}
 use Rattle.ap_desc.specs.declared.design.Arg.{Arg}
 use Rattle.ap_desc.specs.declared.design.Arg.TheVariants as arg
 use Rattle.ap_desc.specs.declared.design.Act.{Act}
-use Rattle.ap_desc.specs.declared.design.Act.TheVariants as act
 use Rattle.ap_desc.specs.declared.statement.Word.{Word}
 use Rattle.ap_desc.specs.declared.statement.Word.TheVariants.{Pc, Link, Named}
 use Rattle.ap_desc.specs.declared.statement.Statement.{Statement}

@@ -1,9 +1,9 @@
 -- The names of a description without fault: each may be used, and none stands twice in its space.
-use Rattle.std.proofs.Common.{◌≡◌, ℕ, Bool, true, false, List, [], ◌∷◌, ◌++◌, map, reverse, Option, Some, None, inl, inr, refl, sym, subst, ap, ◌∙◌, append_assoc, append-nil, flat_map}
-use Rattle.std.specs.Prelude.{◌&&◌, ◌||◌, not, IsTrue, codes, fold, if◌then◌else◌}
-use Rattle.std.specs.List.{AllByRecursion as Each, list_all, list_any}
+use Rattle.std.proofs.Common.{◌≡◌, ℕ, Bool, true, false, List, [], ◌∷◌, ◌++◌, map, inl, inr, refl, sym, subst, ap, ◌∙◌, append_assoc, append-nil, flat_map}
+use Rattle.std.specs.Prelude.{◌||◌, not, codes, fold, if◌then◌else◌}
+use Rattle.std.specs.List.{AllByRecursion as Each, list_any}
 use Rattle.std.specs.Str.{bytes_eq}
-use Rattle.std.proofs.lemmas.Bool.{and_from, and_parts, or_left, or_parts, or_right, or_cases}
+use Rattle.std.proofs.lemmas.Bool.{and_parts, or_left, or_parts, or_right, or_cases}
 use Rattle.std.proofs.lemmas.List.{map-append}
 use Rattle.std.proofs.lemmas.List.Folds.{list_any-append}
 use Rattle.ap_bits.specs.declared.card.Card.{Card}
@@ -12,9 +12,9 @@ use Rattle.ap_desc.proofs.InOrder.{said_by}
 use Rattle.ap_desc.proofs.Named.{distinct_with}
 use Rattle.ap_desc.proofs.SoundParts.{clear, fields_names, file_form, format_form, format_spelled, input_form, mem_form, reg_form, spelled_form, unit_form}
 use Rattle.ap_desc.proofs.Splits.{each_append, each_said, grow}
-use Rattle.ap_desc.specs.Declarations.{declarations, fields_said, file_said, format_said, input_said, mem_said, reg_said, unit_said}
+use Rattle.ap_desc.specs.Declarations.{declarations, file_said, format_said, input_said, mem_said, reg_said, unit_said}
 use Rattle.ap_desc.specs.Descriptions.{IsDescription}
-use Rattle.ap_desc.specs.Instructions.{Block, begun, block_after, blocks_of, with_line}
+use Rattle.ap_desc.specs.Instructions.{Block, begun, block_after, with_line}
 use Rattle.ap_desc.specs.Least.{HoldsNowhere}
 use Rattle.ap_desc.specs.NameFaults.{is_twice}
 use Rattle.ap_desc.specs.Order.{is_micro, is_nop}
@@ -34,7 +34,6 @@ use Rattle.ap_desc.specs.declared.design.Unit.{Unit as Resource}
 use Rattle.ap_desc.specs.declared.design.Format.{Format}
 use Rattle.ap_desc.specs.declared.design.Field.{Field}
 use Rattle.ap_desc.specs.declared.fault.Fault.TheVariants as f
-use Rattle.ap_desc.specs.declared.statement.FieldNumber.{FieldNumber}
 use Rattle.ap_desc.specs.declared.statement.Statement.{Statement}
 use Rattle.ap_desc.specs.declared.statement.Statement.TheVariants as s
 

@@ -1,24 +1,22 @@
 -- The lines of a description's design: they rise as those of its text do.
-use Rattle.std.proofs.Common.{◌≡◌, ℕ, zero, suc, ◌<◌, ◌≤◌, Bool, true, false, if◌then◌else◌, List, [], ◌∷◌, ◌++◌, map, reverse, Option, Some, None, is_some, inl, inr, refl, sym, subst, ap, ◌∙◌, arith, append_assoc, append-nil, flat_map}
-use Rattle.std.specs.Prelude.{◌⊎◌, ◌==◌, IsTrue}
-use Rattle.std.specs.List.{AllByRecursion as Each, cons_option, filter_map}
+use Rattle.std.proofs.Common.{◌≡◌, ℕ, ◌<◌, ◌≤◌, Bool, true, false, if◌then◌else◌, List, [], ◌∷◌, ◌++◌, map, reverse, None, is_some, inl, inr, refl, sym, subst, ap, ◌∙◌, arith, append_assoc, append-nil, flat_map}
+use Rattle.std.specs.Prelude.{◌⊎◌, ◌==◌}
+use Rattle.std.specs.List.{AllByRecursion as Each, cons_option}
 use Rattle.std.proofs.lemmas.List.{map-append, reverse-append}
 use Rattle.std.proofs.lemmas.List.Concat.{flat_map-append}
 use Rattle.std.proofs.lemmas.List.Elements.{filter_map-append}
 use Rattle.std.proofs.lemmas.List.Sums.{fold_push}
-use Rattle.ap_bits.specs.declared.card.Card.{Card}
 use Rattle.ap_desc.proofs.Growing.{below_ten, none_said}
 use Rattle.ap_desc.proofs.InOrder.{HasBegun, IsDue, due_at, earlier_sections, micro_has_begun, no_blocks, said_by}
 use Rattle.ap_desc.proofs.LineOrder.{rise_right}
 use Rattle.ap_desc.proofs.Members.{In, in_left, in_right}
 use Rattle.ap_desc.proofs.Splits.{first_said, grow}
-use Rattle.ap_desc.specs.Declarations.{all_said_at, declarations, first_number, format_said, transfer_line_said}
+use Rattle.ap_desc.specs.Declarations.{all_said_at, first_number, format_said, transfer_line_said}
 use Rattle.ap_desc.specs.Descriptions.{IsDescription, RiseAbove}
 use Rattle.ap_desc.specs.Designs.{Rise}
 use Rattle.ap_desc.specs.Instructions.{Block, begun, block_after, blocks_of, with_line}
 use Rattle.ap_desc.specs.Order.{has_section, is_micro, section}
 use Rattle.ap_desc.specs.declared.description.Numbered.{Numbered}
-use Rattle.ap_desc.specs.declared.design.Design.{Design}
 use Rattle.ap_desc.specs.declared.design.Format.{Format}
 use Rattle.ap_desc.specs.declared.statement.Statement.{Statement}
 use Rattle.ap_desc.specs.declared.statement.Statement.TheVariants as s

@@ -1,29 +1,25 @@
 -- What a description without fault declares: each part within its limits, of the cards, and named once.
-use Rattle.std.proofs.Common.{◌≡◌, ℕ, zero, suc, ◌<◌, ◌≤◌, ◌+◌, ◌-◌, ◌^◌, Bool, true, false, cond, List, [], ◌∷◌, ◌++◌, map, length, Option, Some, None, is_some, inl, inr, refl, sym, subst, ap, ◌∙◌, arith, append_assoc, append-nil, le-leb, eq-eqb, flat_map}
-use Rattle.std.specs.Prelude.{◌&&◌, ◌||◌, ◌==◌, not, nat_le, nat_lt, slice_get, IsSomeAnd, IsTrue, option_map, option_to_list}
+use Rattle.std.proofs.Common.{◌≡◌, ℕ, suc, ◌<◌, ◌≤◌, Bool, true, false, List, [], ◌∷◌, ◌++◌, length, Option, Some, is_some, refl, sym, subst, ap, ◌∙◌, arith, le-leb, eq-eqb}
+use Rattle.std.specs.Prelude.{◌&&◌, ◌==◌, not, nat_le, nat_lt, slice_get, IsSomeAnd}
 use Rattle.std.specs.List.{AllByRecursion as Each, count_by, filter_map, list_all, list_any}
 use Rattle.std.specs.Option.{option_map_or}
-use Rattle.std.proofs.lemmas.Bool.{and_from, and_parts, both_ways, false_from_ne_true, ltb-false, not-false, not-true, or_parts}
-use Rattle.std.proofs.lemmas.List.{map-append}
-use Rattle.std.proofs.lemmas.List.Folds.{list_all-append, list_all-map}
+use Rattle.std.proofs.lemmas.Bool.{and_from, and_parts, both_ways, false_from_ne_true, ltb-false, not-false, or_parts}
 use Rattle.std.proofs.lemmas.Option.{same_Some}
 use Rattle.ap_bits.specs.Cards.{FitsWidth, allows, latency_at}
 use Rattle.ap_bits.specs.declared.card.Card.{Card}
-use Rattle.ap_desc.proofs.Growing.{declared_grows}
-use Rattle.ap_desc.proofs.InOrder.{IsDue, due_at, said_by}
-use Rattle.ap_desc.proofs.Named.{at_place, distinct_with, named_there}
-use Rattle.ap_desc.proofs.Splits.{each_list_all, each_said, each_split, first_said, grow, said_count, said_length, said_within, settled}
-use Rattle.ap_desc.specs.Declarations.{address_said, all_said, all_said_at, branch_said, declarations, fields_said, file_said, first_number, format_said, input_said, mem_said, reg_said, slots_said, stages_said, transfer_line_said, unit_said, word_said}
+use Rattle.ap_desc.proofs.InOrder.{due_at, said_by}
+use Rattle.ap_desc.proofs.Named.{at_place, named_there}
+use Rattle.ap_desc.proofs.Splits.{each_said, each_split, first_said, said_count, said_length, said_within, settled}
+use Rattle.ap_desc.specs.Declarations.{address_said, branch_said, declarations, fields_said, file_said, first_number, format_said, input_said, mem_said, reg_said, slots_said, stages_said, unit_said, word_said}
 use Rattle.ap_desc.specs.Descriptions.{IsDescription}
-use Rattle.ap_desc.specs.Designs.{ArePlaced, has_bits, is_address_width, is_between, is_field_width, is_file_shape, is_file_within, is_format_within, is_mem_shape, is_mem_within, is_reg_within, is_slot_count, is_stage_count, is_transfer_stage, is_width, is_word_width}
+use Rattle.ap_desc.specs.Designs.{ArePlaced, has_bits, is_address_width, is_between, is_field_width, is_file_within, is_format_within, is_mem_within, is_reg_within, is_slot_count, is_stage_count, is_transfer_stage, is_width, is_word_width}
 use Rattle.ap_desc.specs.Least.{HoldsNowhere}
-use Rattle.ap_desc.specs.NameFaults.{is_missing}
-use Rattle.ap_desc.specs.Order.{has_section, is_complete, is_inside, is_nop, is_one_too_many, section, section_count}
-use Rattle.ap_desc.specs.Parts.{card_named, file_names, format_names, input_names, kind_names, mem_names, names_of_fields, place_of, reg_names, unit_names}
+use Rattle.ap_desc.specs.Order.{has_section, is_inside, is_nop, is_one_too_many, section, section_count}
+use Rattle.ap_desc.specs.Parts.{card_named, format_names, kind_names, names_of_fields, place_of}
 use Rattle.ap_desc.specs.Reserved.{is_among, is_free_name}
-use Rattle.ap_desc.specs.Scope.{scope_after, with_declared}
+use Rattle.ap_desc.specs.Scope.{scope_after}
 use Rattle.ap_desc.specs.Shelf.{IsOfCard}
-use Rattle.ap_desc.specs.Sound.{are_distinct, names_of_parts}
+use Rattle.ap_desc.specs.Sound.{are_distinct}
 use Rattle.ap_desc.specs.Spelling.{IsSpellable, are_free_fields, field_names, has_fields, is_small}
 use Rattle.ap_desc.specs.StatementFaults.{HasStatementFault, is_faulty}
 use Rattle.ap_desc.specs.declared.description.Numbered.{Numbered}

@@ -1,15 +1,12 @@
 -- The widths of a line that has no fault of widths: they stay where more locals follow, and its local has one that a value may have.
-use Rattle.std.proofs.Common.{◌≡◌, ℕ, zero, suc, ◌<◌, ◌≤◌, ◌+◌, ◌-◌, Bool, true, false, List, [], ◌∷◌, ◌++◌, length, Option, Some, None, inl, inr, refl, sym, subst, ap, ◌∙◌, arith, le-leb, leb-true, ltb-true, ltb-false}
-use Rattle.std.specs.Prelude.{◌&&◌, ◌||◌, not, nat_le, nat_lt, slice_get, IfSome, IsSomeAnd, IsTrue, option_to_list}
-use Rattle.std.specs.List.{AllByRecursion as Each, list_any}
-use Rattle.std.specs.Option.{option_map_or}
-use Rattle.std.proofs.lemmas.Bool.{and_from, and_parts, both_ways, not-false, not_from_false, or_parts}
-use Rattle.std.proofs.lemmas.Option.{slice_get_within}
+use Rattle.std.proofs.Common.{◌≡◌, ℕ, zero, suc, ◌<◌, ◌≤◌, ◌+◌, ◌-◌, true, false, List, [], ◌∷◌, ◌++◌, length, Option, Some, None, refl, ap, ◌∙◌, arith, le-leb, leb-true, ltb-true, ltb-false}
+use Rattle.std.specs.Prelude.{◌||◌, not, nat_le, nat_lt, slice_get, IfSome, IsSomeAnd, option_to_list}
+use Rattle.std.specs.List.{AllByRecursion as Each}
+use Rattle.std.proofs.lemmas.Bool.{and_from, and_parts, not-false, or_parts}
 use Rattle.ap_bits.specs.declared.card.Card.{Card}
 use Rattle.ap_desc.proofs.LocalWidths.{arg_width_stays}
 use Rattle.ap_desc.specs.Chains.{operands_of}
 use Rattle.ap_desc.specs.Designs.{IsArg, IsInRange, arg_width, is_width, local_width, width_at}
-use Rattle.ap_desc.specs.Instructions.{act_of, arg_of, stage_of}
 use Rattle.ap_desc.specs.Order.{is_micro}
 use Rattle.ap_desc.specs.Scope.{Scope}
 use Rattle.ap_desc.specs.Widths.{differs, has_bad_width, has_widths, is_bad_slice, is_no_target, is_not_one_bit, is_wide_constant}
