@@ -6,18 +6,11 @@ use Rattle.std.proofs.lemmas.Bool.{cases_eq, cases_Bool, both_ways}
 use Rattle.std.proofs.lemmas.Option.{cond_some, same_Some}
 use Rattle.ap_desc.proofs.Members.{In, contains_in, in_contains}
 use Rattle.ap_desc.proofs.Listed.{Decided, Listed, Reach, reach_here, reach_on, reach_step, reach_listed, listed_by, listed_if, listed_like, listed_option, listed_places}
-use Rattle.ap_desc.specs.Chains.{ComesFrom, IsMadeBy, IsWiredFrom, Reaches, if_in_stage, is_wiring, maker_in, makers, operands_of}
+use Rattle.ap_desc.specs.Chains.{ComesFrom, IsMadeBy, IsWiredBehind, IsWiredFrom, Reaches, ReachesBehind, if_in_stage, is_wiring, maker_in, makers, operands_of}
 use Rattle.ap_desc.specs.declared.design.Instr.{Instr}
 use Rattle.ap_desc.specs.declared.design.Micro.{Micro}
 use Rattle.ap_desc.specs.declared.design.Arg.{Arg}
 use Rattle.ap_desc.specs.declared.design.Arg.TheVariants as arg
-
--- the lines from which an operand of one of these comes
-abbrev pub ReachesBehind : Instr → ℕ → Micro → Micro → Type 0
-ReachesBehind instr stage source m = Any (λ b. Reaches instr stage b source) (operands_of m.act)
-
-abbrev pub WiredBehind : Instr → ℕ → Micro → Micro → Type 0
-WiredBehind instr stage source m = IsTrue (is_wiring m.act) × Any (λ b. IsWiredFrom instr stage b source) (operands_of m.act)
 
 module _ (instr : Instr) (stage : ℕ) (source : Micro) where
   pub reaches_behind : (a : Arg) → Reaches instr stage a source → IsMadeBy instr stage a source (ReachesBehind instr stage source)
@@ -28,11 +21,11 @@ module _ (instr : Instr) (stage : ℕ) (source : Micro) where
   behind_reaches a (m, made, inl same) = ([], subst (λ x. maker_in instr stage a ≡ Some x) same made)
   behind_reaches a (m, made, inr (k, b, low, at, (through, comes))) = (m ∷ through, (made, (k, b, low, at, comes)))
 
-  pub wired_behind : (a : Arg) → IsWiredFrom instr stage a source → IsMadeBy instr stage a source (WiredBehind instr stage source)
+  pub wired_behind : (a : Arg) → IsWiredFrom instr stage a source → IsMadeBy instr stage a source (IsWiredBehind instr stage source)
   wired_behind a ([], each, made) = (source, made, inl refl)
   wired_behind a (m ∷ through, each, (made, (k, b, low, at, comes))) = (m, made, inr (each.0, (k, b, low, at, (through, each.1, comes))))
 
-  pub behind_wired : (a : Arg) → IsMadeBy instr stage a source (WiredBehind instr stage source) → IsWiredFrom instr stage a source
+  pub behind_wired : (a : Arg) → IsMadeBy instr stage a source (IsWiredBehind instr stage source) → IsWiredFrom instr stage a source
   behind_wired a (m, made, inl same) = ([], tt, subst (λ x. maker_in instr stage a ≡ Some x) same made)
   behind_wired a (m, made, inr (wires, (k, b, low, at, (through, each, comes)))) = (m ∷ through, (wires, each), (made, (k, b, low, at, comes)))
 

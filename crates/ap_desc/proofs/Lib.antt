@@ -22,6 +22,7 @@ pub mod Loops
 pub mod Members
 pub mod Named
 pub mod NotSpelled
+pub mod OwnEdges
 pub mod PartFits
 pub mod Patterns
 pub mod PlainTokens
@@ -39,4 +40,5 @@ pub mod SoundParts
 pub mod SoundWidths
 pub mod Splits
 pub mod TokenValues
+pub mod Walks
 pub mod WordForms

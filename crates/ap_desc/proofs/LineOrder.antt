@@ -81,7 +81,7 @@ own_rise low (i ∷ instrs) instr r (inr h) =
     rise_weaker low i.line (map (λ (m : Micro). m.line) instr.micros) (omega arith) (own_rise i.line instrs instr later h)
 
 -- the lines of a sound design's instructions
-sound_rise : (design : Design) → IsSound design → Rise 0 (flat_map instr_lines design.instrs)
+pub sound_rise : (design : Design) → IsSound design → Rise 0 (flat_map instr_lines design.instrs)
 sound_rise design sound =
     let whole : Rise 0 ((design.transfer_line ∷ map (λ (f : Format). f.line) design.formats) ++ flat_map instr_lines design.instrs) = sound.lines in
     rise_right 0 (design.transfer_line ∷ map (λ (f : Format). f.line) design.formats) (flat_map instr_lines design.instrs) whole

@@ -3,7 +3,7 @@ use Rattle.std.proofs.Common.{◌≡◌, ℕ, zero, suc, List, [], ◌∷◌, �
 use Rattle.std.specs.Prelude.{◌⊎◌, slice_get}
 use Rattle.std.proofs.lemmas.Option.{same_Some}
 use Rattle.ap_desc.proofs.Members.{In, in_left, in_right, in_append}
-use Rattle.ap_desc.specs.Chains.{IsWalk, HasLoop}
+use Rattle.ap_desc.specs.Chains.{IsWalk, HasLoop, Leads}
 
 abbrev pub Decided : Type 0 → Type 0
 Decided A = A ⊎ (A → ⊥)
@@ -122,15 +122,11 @@ module _ {X : Type 0} (Step : X → X → Type 0) (es : List (X × X)) (among : 
   walk_reaches x [] y walk = reach_step es x y (among x y walk.0)
   walk_reaches x (z ∷ between) y walk = reach_on es x z y (reach_step es x z (among x z walk.0)) (walk_reaches z between y walk.1)
 
--- one more step, or a walk, from the first to the second
-abbrev Leads : {X : Type 0} → (X → X → Type 0) → X → X → Type 0
-Leads {X} Step x y = (x ≡ y) ⊎ ((between : List X) × IsWalk Step x (between ++ y ∷ []))
-
 walks_on : {X : Type 0} (Step : X → X → Type 0) (x : X) (before : List X) (z : X) (after : List X) → IsWalk Step x (before ++ z ∷ []) → IsWalk Step z after → IsWalk Step x (before ++ z ∷ after)
 walks_on Step x [] z after one two = (one.0, two)
 walks_on Step x (w ∷ before) z after one two = (one.0, walks_on Step w before z after one.1 two)
 
-leads_on : {X : Type 0} (Step : X → X → Type 0) (x y z : X) → Leads Step x y → Leads Step y z → Leads Step x z
+pub leads_on : {X : Type 0} (Step : X → X → Type 0) (x y z : X) → Leads Step x y → Leads Step y z → Leads Step x z
 leads_on Step x y z (inl e) q = subst (λ w. Leads Step w z) (sym e) q
 leads_on Step x y z (inr walk) (inl e) = subst (λ w. Leads Step x w) e (inr walk)
 leads_on Step x y z (inr (before, one)) (inr (after, two)) =

@@ -38,7 +38,7 @@ ordered_without_loop design stage order o (x, between, walk) =
     omega arith
 
 -- a walk along steps is one along steps that they are among
-walk_maps : {X : Type 0} (Step More : X → X → Type 0) → ((x y : X) → Step x y → More x y) → (x : X) (xs : List X) → IsWalk Step x xs → IsWalk More x xs
+pub walk_maps : {X : Type 0} (Step More : X → X → Type 0) → ((x y : X) → Step x y → More x y) → (x : X) (xs : List X) → IsWalk Step x xs → IsWalk More x xs
 walk_maps Step More up x [] walk = tt
 walk_maps Step More up x (y ∷ xs) walk = (up x y walk.0, walk_maps Step More up y xs walk.1)
 

@@ -78,6 +78,15 @@ abbrev pub IsMadeBy : Instr → ℕ → Arg → Micro → (Micro → Type 0) →
 IsMadeBy instr stage a source GoesOn =
     (m : Micro) × (maker_in instr stage a ≡ Some m) × ((m ≡ source) ⊎ GoesOn m)
 
+-- the operand is made from the source through the line: one of the line's operands reaches it, or the line is wiring and one of them is
+-- wired from it
+abbrev pub ReachesBehind : Instr → ℕ → Micro → Micro → Type 0
+ReachesBehind instr stage source m = Any (λ b. Reaches instr stage b source) (operands_of m.act)
+
+abbrev pub IsWiredBehind : Instr → ℕ → Micro → Micro → Type 0
+IsWiredBehind instr stage source m =
+    IsTrue (is_wiring m.act) × Any (λ b. IsWiredFrom instr stage b source) (operands_of m.act)
+
 -- an edge of the union graph of a stage: some line of the stage, of a number that counts, uses `to` with an operand that comes by wiring
 -- from a line of its instruction and stage that uses `from`
 pub record Edge (design : Design) (stage : ℕ) (counts : ℕ → Bool) (from to : Node) : Type 0 where
@@ -92,6 +101,16 @@ pub record Edge (design : Design) (stage : ℕ) (counts : ℕ → Bool) (from to
   pub uses_from : node_of source.act ≡ Some from
   pub wired : Any (λ a. IsWiredFrom instr stage a source) (operands_of user.act)
 
+-- the edges of the lines up to one, before it, and of its number
+abbrev pub EdgeUpTo : Design → ℕ → ℕ → Node → Node → Type 0
+EdgeUpTo design stage line = Edge design stage (λ n. nat_le n line)
+
+abbrev pub EdgeBefore : Design → ℕ → ℕ → Node → Node → Type 0
+EdgeBefore design stage line = Edge design stage (λ n. nat_lt n line)
+
+abbrev pub EdgeOf : Design → ℕ → ℕ → Node → Node → Type 0
+EdgeOf design stage line = Edge design stage (λ n. n == line)
+
 -- steps lead from the first on, to each of these in turn
 abbrev pub IsWalk : {X : Type 0} → (X → X → Type 0) → X → List X → Type 0
 IsWalk Step from [] = Unit {0}
@@ -100,6 +119,24 @@ IsWalk Step from (x ∷ xs) = Step from x × IsWalk Step x xs
 -- a walk of at least one step that comes back to where it began
 abbrev pub HasLoop : {X : Type 0} → (X → X → Type 0) → Type 0
 HasLoop {X} Step = (x : X) × (between : List X) × IsWalk Step x (between ++ x ∷ [])
+
+-- the second is the first, or a walk leads there
+abbrev pub Leads : {X : Type 0} → (X → X → Type 0) → X → X → Type 0
+Leads {X} Step x y = (x ≡ y) ⊎ ((between : List X) × IsWalk Step x (between ++ y ∷ []))
+
+-- these steps, and further ones to one end
+abbrev pub StepsTo : {X : Type 0} → (X → X → Type 0) → (X → Type 0) → X → X → X → Type 0
+StepsTo Step From to x y = Step x y ⊎ (From x × (y ≡ to))
+
+-- an operand of the line comes by wiring from a line of its instruction and stage that uses the node
+abbrev pub TakesFrom : Instr → Micro → Node → Type 0
+TakesFrom instr user from =
+    (source : Micro) × (node_of source.act ≡ Some from)
+    × Any (λ a. IsWiredFrom instr user.stage a source) (operands_of user.act)
+
+-- the edge that a line makes goes from such a node to its own
+abbrev pub MakesEdge : Instr → Micro → Node → Node → Type 0
+MakesEdge instr user from to = (node_of user.act ≡ Some to) × TakesFrom instr user from
 
 -- the union graph of a stage has a loop, of edges from lines that count
 abbrev pub IsLooped : Design → ℕ → (ℕ → Bool) → Type 0

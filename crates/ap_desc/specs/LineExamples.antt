@@ -1,6 +1,6 @@
 -- An example description up to the middle of an instruction, in whose scope further lines are judged: four stages, a part of each sort,
 -- and an instruction with a local `a` of 8 bits and a local `b` of 2 bits.
-use Rattle.std.specs.Prelude.{Bool, List, [], ◌∷◌, ◌++◌, codes}
+use Rattle.std.specs.Prelude.{Bool, List, [], ◌∷◌, ◌++◌, codes, take}
 use Rattle.ap_bits.specs.declared.card.Card.{Card}
 use Rattle.ap_bits.specs.declared.card.Latency.TheVariants.{One}
 use Rattle.ap_bits.specs.declared.card.Widths.TheVariants.{PowersOfTwo}
@@ -12,9 +12,9 @@ use Rattle.ap_desc.specs.declared.statement.Statement.{Statement}
 use Rattle.ap_desc.specs.declared.statement.Statement.TheVariants as s
 use Rattle.ap_desc.specs.declared.statement.Word.{Word}
 use Rattle.ap_desc.specs.declared.statement.Word.TheVariants.{Named}
-use Rattle.ap_desc.specs.Examples.{adder_card}
+use Rattle.ap_desc.specs.Examples.{adder_card, adder_statements}
 use Rattle.ap_desc.specs.StatementFaults.{is_faulty}
-use Rattle.ap_desc.specs.Scope.{scope_after}
+use Rattle.ap_desc.specs.Scope.{Scope, scope_after, scope_with}
 
 -- a shelf with a kind of any width that adds, and a kind of widths that are powers of two that shifts
 abbrev pub two_cards : List Card
@@ -57,3 +57,11 @@ local_a = Named (codes "a")
 
 abbrev pub local_b : Word
 local_b = Named (codes "b")
+
+-- the scope of the adder's first ten lines, and with the eleventh: 1 a = GPR.r0 rs
+abbrev pub after_ten : Scope
+after_ten = scope_after (take 10 adder_statements) (adder_card ∷ [])
+
+abbrev pub after_eleven : Scope
+after_eleven =
+    scope_with (adder_card ∷ []) after_ten (record { line = 11; statement = s.ReadFile 1 (codes "a") (codes "GPR") 0 (Named (codes "rs")) })

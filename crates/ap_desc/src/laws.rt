@@ -1,7 +1,7 @@
 //! Laws of the definitions. They do nothing: their contracts are what they say.
-ghost use Rattle.std.specs.Prelude.{◌≡◌, ◌^◌, ◌<◌, ◌==◌, ◌↔◌, ◌⊎◌, filter_map, nat_le, nat_lt, ℕ, [], ◌∷◌, ◌++◌, Any, Contains, IsTrue, List, Some, slice_get, true};
+ghost use Rattle.std.specs.Prelude.{◌≡◌, ◌^◌, ◌<◌, ◌↔◌, ◌⊎◌, filter_map, nat_lt, ℕ, [], ◌∷◌, ◌++◌, Any, Contains, IsTrue, List, None, Some, slice_get, true};
 ghost use Rattle.ap_bits.specs.declared.card.Card.{Card};
-ghost use Rattle.ap_desc.specs.Chains.{ClosesLoop, Edge, IsChainOrder, IsLooped, IsMadeBy, IsWiredFrom, Reaches, is_wiring, maker_in, makers, operands_of};
+ghost use Rattle.ap_desc.specs.Chains.{ClosesLoop, EdgeBefore, EdgeOf, EdgeUpTo, IsChainOrder, IsLooped, IsMadeBy, IsWiredBehind, IsWiredFrom, Leads, MakesEdge, Reaches, TakesFrom, maker_in, makers, node_of, operands_of};
 ghost use Rattle.ap_desc.specs.Clean.{IsClean};
 ghost use Rattle.ap_desc.specs.Declarations.{declarations};
 ghost use Rattle.ap_desc.specs.Descriptions.{IsDescription};
@@ -52,38 +52,61 @@ pub fn reading_is_unique()
 
 /// A description, a text and a design have one least fault at most.
 pub fn least_fault_is_unique()
-    ensures description { (statements : List Numbered) (cards : List Card) (one other : Refusal) → IsLeastMeaningFault statements cards one → IsLeastMeaningFault statements cards other → one ≡ other }
-    ensures text { (text : List ℕ) (cards : List Card) (one other : Refusal) → IsLeastFault text cards one → IsLeastFault text cards other → one ≡ other }
-    ensures words { (design : Design) (one other : Refusal) → IsLeastWordFault design one → IsLeastWordFault design other → one ≡ other }
-    ensures ports { (design : Design) (one other : Refusal) → IsLeastPortFault design one → IsLeastPortFault design other → one ≡ other }
+    ensures description { (statements : List Numbered) (cards : List Card) (one other : Refusal)
+        → IsLeastMeaningFault statements cards one → IsLeastMeaningFault statements cards other
+        → one ≡ other }
+    ensures text { (text : List ℕ) (cards : List Card) (one other : Refusal)
+        → IsLeastFault text cards one → IsLeastFault text cards other → one ≡ other }
+    ensures words { (design : Design) (one other : Refusal) → IsLeastWordFault design one
+        → IsLeastWordFault design other → one ≡ other }
+    ensures ports { (design : Design) (one other : Refusal) → IsLeastPortFault design one
+        → IsLeastPortFault design other → one ≡ other }
 {}
 
 /// The least fault among those that are looked at is the least of all whose conditions hold.
 pub fn least_fault_is_looked_at()
-    ensures description { (statements : List Numbered) (cards : List Card) (refusal : Refusal) → IsLeast (MeetsMeaningFault statements cards) refusal ↔ IsLeastMeaningFault statements cards refusal }
-    ensures text { (text : List ℕ) (cards : List Card) (refusal : Refusal) → IsLeast (MeetsFault text cards) refusal ↔ IsLeastFault text cards refusal }
-    ensures words { (design : Design) (refusal : Refusal) → IsLeast (MeetsWordFault design) refusal ↔ IsLeastWordFault design refusal }
-    ensures ports { (design : Design) (refusal : Refusal) → IsLeast (MeetsPortFault design) refusal ↔ IsLeastPortFault design refusal }
+    ensures description { (statements : List Numbered) (cards : List Card) (refusal : Refusal)
+        → IsLeast (MeetsMeaningFault statements cards) refusal
+        ↔ IsLeastMeaningFault statements cards refusal }
+    ensures text { (text : List ℕ) (cards : List Card) (refusal : Refusal)
+        → IsLeast (MeetsFault text cards) refusal ↔ IsLeastFault text cards refusal }
+    ensures words { (design : Design) (refusal : Refusal) → IsLeast (MeetsWordFault design) refusal
+        ↔ IsLeastWordFault design refusal }
+    ensures ports { (design : Design) (refusal : Refusal) → IsLeast (MeetsPortFault design) refusal
+        ↔ IsLeastPortFault design refusal }
 {}
 
 /// The least fault of a description is found phase by phase: among its lines; where they have none, among the words of its design; and
 /// where these have none, among ports and stages.
 pub fn least_fault_by_phases()
-    ensures lines { (statements : List Numbered) (cards : List Card) (refusal : Refusal) → IsLeast (HasStatementFault statements cards) refusal → IsLeastMeaningFault statements cards refusal }
-    ensures words { (statements : List Numbered) (cards : List Card) (refusal : Refusal) → HoldsNowhere (HasStatementFault statements cards)
-        → IsLeastWordFault (design_of statements cards) refusal → IsLeastMeaningFault statements cards refusal }
-    ensures ports { (statements : List Numbered) (cards : List Card) (refusal : Refusal) → HoldsNowhere (HasStatementFault statements cards) → HoldsNowhere (MeetsWordFault (design_of statements cards))
-        → IsLeastPortFault (design_of statements cards) refusal → IsLeastMeaningFault statements cards refusal }
-    ensures none { (statements : List Numbered) (cards : List Card) → HoldsNowhere (HasStatementFault statements cards) → HoldsNowhere (MeetsWordFault (design_of statements cards))
-        → HoldsNowhere (MeetsPortFault (design_of statements cards)) → IsMeaningful statements cards }
+    ensures lines { (statements : List Numbered) (cards : List Card) (refusal : Refusal)
+        → IsLeast (HasStatementFault statements cards) refusal
+        → IsLeastMeaningFault statements cards refusal }
+    ensures words { (statements : List Numbered) (cards : List Card) (refusal : Refusal)
+        → HoldsNowhere (HasStatementFault statements cards)
+        → IsLeastWordFault (design_of statements cards) refusal
+        → IsLeastMeaningFault statements cards refusal }
+    ensures ports { (statements : List Numbered) (cards : List Card) (refusal : Refusal)
+        → HoldsNowhere (HasStatementFault statements cards)
+        → HoldsNowhere (MeetsWordFault (design_of statements cards))
+        → IsLeastPortFault (design_of statements cards) refusal
+        → IsLeastMeaningFault statements cards refusal }
+    ensures none { (statements : List Numbered) (cards : List Card)
+        → HoldsNowhere (HasStatementFault statements cards)
+        → HoldsNowhere (MeetsWordFault (design_of statements cards))
+        → HoldsNowhere (MeetsPortFault (design_of statements cards))
+        → IsMeaningful statements cards }
 {}
 
 /// A stage whose nodes have an order in which every edge goes forward has no loop. A line that closes a loop leaves the stage with one, and
 /// it is the only such line.
 pub fn loops_and_orders()
-    ensures order { (design : Design) (stage : ℕ) (order : List Node) → IsChainOrder design stage order → IsLooped design stage (λ n. true) → ⊥ }
-    ensures closed { (design : Design) (stage line : ℕ) → ClosesLoop design stage line → IsLooped design stage (λ n. true) }
-    ensures line { (design : Design) (stage line other : ℕ) → ClosesLoop design stage line → ClosesLoop design stage other → line ≡ other }
+    ensures order { (design : Design) (stage : ℕ) (order : List Node)
+        → IsChainOrder design stage order → IsLooped design stage (λ n. true) → ⊥ }
+    ensures closed { (design : Design) (stage line : ℕ) → ClosesLoop design stage line
+        → IsLooped design stage (λ n. true) }
+    ensures line { (design : Design) (stage line other : ℕ) → ClosesLoop design stage line
+        → ClosesLoop design stage other → line ≡ other }
 {}
 
 /// A description without fault of names and widths describes a sound design, and it is of the cards.
@@ -99,7 +122,8 @@ pub fn faultless_descriptions_are_sound()
 /// What the lines before a line of an instruction declare is what the whole description declares. One more line adds what it declares,
 /// and one more line's scope is the scope before it with what the line adds.
 pub fn descriptions_grow()
-    ensures whole { (statements : List Numbered) (cards : List Card) (before : List Numbered) (n : Numbered)
+    ensures whole { (statements : List Numbered) (cards : List Card) (before : List Numbered)
+        (n : Numbered)
         (after : List Numbered) → IsDescription statements → statements ≡ before ++ n ∷ after
         → section n.statement ≡ 10
         → declarations before cards ≡ declarations statements cards }
@@ -108,7 +132,8 @@ pub fn descriptions_grow()
         → statements ≡ before ++ n ∷ after
         → declarations (before ++ n ∷ []) cards
         ≡ with_declared cards n.line n.statement (declarations before cards) }
-    ensures scope { (statements : List Numbered) (cards : List Card) (before : List Numbered) (n : Numbered)
+    ensures scope { (statements : List Numbered) (cards : List Card) (before : List Numbered)
+        (n : Numbered)
         (after : List Numbered) → IsDescription statements → statements ≡ before ++ n ∷ after
         → scope_after (before ++ n ∷ []) cards ≡ scope_with cards (scope_after before cards) n }
 {}
@@ -134,8 +159,33 @@ pub fn loops_are_closed()
     ensures closes { (design : Design) (stage : ℕ) → IsLooped design stage (λ n. true)
         → (line : ℕ) × ClosesLoop design stage line }
     ensures up_to { (design : Design) (stage line : ℕ) (from to : Node)
-        → Edge design stage (λ n. nat_le n line) from to
-        ↔ (Edge design stage (λ n. nat_lt n line) from to ⊎ Edge design stage (λ n. n == line) from to) }
+        → EdgeUpTo design stage line from to
+        ↔ (EdgeBefore design stage line from to ⊎ EdgeOf design stage line from to) }
+{}
+
+/// Of a sound design, in the stage of a line of an instruction: the line's own edges are those that it makes. With them a walk goes by the
+/// edges before it, or by these to where one of its own begins and on from its node. Where the lines before it make no loop, it closes
+/// one exactly where its node leads by their edges to one from which it takes an operand. A line that uses no node adds no edge.
+pub fn lines_make_their_edges()
+    ensures own { (design : Design) (instr : Instr) (m : Micro) (from to : Node) → IsSound design
+        → Contains design.instrs instr → Contains instr.micros m
+        → EdgeOf design m.stage m.line from to ↔ MakesEdge instr m from to }
+    ensures leads { (design : Design) (instr : Instr) (m : Micro) → IsSound design
+        → Contains design.instrs instr → Contains instr.micros m
+        → (to : Node) → node_of m.act ≡ Some to → (x y : Node)
+        → Leads (EdgeUpTo design m.stage m.line) x y
+        ↔ (Leads (EdgeBefore design m.stage m.line) x y
+        ⊎ ((u : Node) × TakesFrom instr m u × Leads (EdgeBefore design m.stage m.line) x u
+        × Leads (EdgeBefore design m.stage m.line) to y)) }
+    ensures closes { (design : Design) (instr : Instr) (m : Micro) → IsSound design
+        → Contains design.instrs instr → Contains instr.micros m
+        → (to : Node) → node_of m.act ≡ Some to
+        → (IsLooped design m.stage (λ n. nat_lt n m.line) → ⊥)
+        → ClosesLoop design m.stage m.line
+        ↔ ((u : Node) × TakesFrom instr m u × Leads (EdgeBefore design m.stage m.line) to u) }
+    ensures other { (design : Design) (instr : Instr) (m : Micro) → IsSound design
+        → Contains design.instrs instr → Contains instr.micros m → node_of m.act ≡ None
+        → (x y : Node) → EdgeUpTo design m.stage m.line x y → EdgeBefore design m.stage m.line x y }
 {}
 
 /// Of the lines of a sound design's instructions, of its instructions, and of the lines of one of them, those of a lower number stand
@@ -158,12 +208,14 @@ pub fn lines_stand_in_order()
 pub fn operands_come_from_makers()
     ensures reaches { (instr : Instr) (stage : ℕ) (a : Arg) (source : Micro)
         → Reaches instr stage a source
-        ↔ IsMadeBy instr stage a source (λ m. Any (λ b. Reaches instr stage b source) (operands_of m.act)) }
+        ↔ IsMadeBy instr stage a source (λ m. Any (λ b. Reaches instr stage b source)
+        (operands_of m.act)) }
     ensures wired { (instr : Instr) (stage : ℕ) (a : Arg) (source : Micro)
         → IsWiredFrom instr stage a source
         ↔ IsMadeBy instr stage a source
-        (λ m. IsTrue (is_wiring m.act) × Any (λ b. IsWiredFrom instr stage b source) (operands_of m.act)) }
-    ensures maker { (instr : Instr) (stage i : ℕ) (m : Micro) → maker_in instr stage (arg.Local i) ≡ Some m
+        (IsWiredBehind instr stage source) }
+    ensures maker { (instr : Instr) (stage i : ℕ) (m : Micro)
+        → maker_in instr stage (arg.Local i) ≡ Some m
         ↔ ((slice_get (makers instr) i ≡ Some m) × (m.stage ≡ stage)) }
 {}
 
