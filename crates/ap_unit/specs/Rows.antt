@@ -1,10 +1,11 @@
--- Inputs of a unit over some cycles, and assigns of a small module, at which definitions are worked out.
-use Rattle.std.specs.Prelude.{ℕ, List, [], ◌∷◌, slice_index_or, Bool, nat_lt}
+-- Inputs of a unit over some cycles, assigns of a small module, and a method, at which definitions are worked out.
+use Rattle.std.specs.Prelude.{ℕ, ◌+◌, List, [], ◌∷◌, slice_index_or, Bool, nat_lt}
 use Rattle.ap_net.specs.declared.cell.Wire.{Wire}
 use Rattle.ap_net.specs.declared.cell.TwoOp.TheVariants.{Add}
 use Rattle.ap_net.specs.declared.cell.Cell.TheVariants.{Copy, Two}
 use Rattle.ap_net.specs.declared.net.Assign.{Assign}
 use Rattle.ap_unit.specs.Ages.{UnitInput}
+use Rattle.ap_unit.specs.Methods.{Method}
 
 -- a unit with one operation, asked for 5 and 7, or not asked
 abbrev pub asked : ℕ → UnitInput
@@ -33,3 +34,7 @@ chain = record { to = bit 2; cell = Two Add (bit 0) (bit 3) } ∷ record { to = 
 
 abbrev pub below_4 : ℕ → Bool
 below_4 n = nat_lt n 4
+
+-- a method that begins with 0 and the first operand, and adds the second one to the high number in each step
+abbrev pub adding_up : Method
+adding_up = record { start = λ a b. record { high = 0; low = a }; step = λ a b state. record { high = state.high + b; low = state.low } }
