@@ -1,11 +1,11 @@
 //! The multiplier.
-ghost use Rattle.std.specs.Prelude.{◌≡◌, ℕ, ◌+◌, ◌-◌, ◌*◌, ◌/◌, ◌%◌, ◌^◌, ◌<◌, ◌≤◌, IfOk, OnOk};
+ghost use Rattle.std.specs.Prelude.{◌≡◌, ◌+◌, ◌-◌, ◌*◌, ◌/◌, ◌%◌, ◌^◌, ◌≤◌, IfOk, OnOk};
 ghost use Rattle.ap_net.specs.Cells.{IsNet};
-ghost use Rattle.ap_net.specs.Draft.{CanFresh, Makes, SettlesDraft};
+ghost use Rattle.ap_net.specs.Draft.{CanFresh, Makes};
 ghost use Rattle.ap_bits.specs.Cards.{FitsWidth};
 ghost use Rattle.ap_unit.specs.Built.{IsBlank, IsUnitDraft};
 ghost use Rattle.ap_unit.specs.Named.{NamesPlainly};
-ghost use Rattle.ap_unit.specs.Stepping.{HoldsStepper, IsPair, MakesStep, state_of};
+ghost use Rattle.ap_unit.specs.Stepping.{HoldsStepper, IsPair, MakesStep, Gives, state_of};
 ghost use Rattle.ap_mul.specs.Products.{mul_card, multiply, product_step};
 
 use crate::sum::sum_with_carry;
@@ -26,7 +26,8 @@ fn moved_down(out: &mut Builder, x: Wire, top: Wire) -> Result<Wire, NoMemory>
     requires low { 1 ≤ x.width }
     requires high { x.width ≤ 64 }
     ensures net { IfOk result (λ y. IsNet out.new.nets y × (y.width ≡ x.width)) }
-    ensures value { IfOk result (λ y. (read : ℕ → ℕ) → SettlesDraft out.new read → SettlesDraft out.old read × (read y.number ≡ read top.number * 2 ^ (x.width - 1) + read x.number / 2)) }
+    ensures value { IfOk result (λ y. Gives out.old out.new (λ read.
+        read y.number ≡ read top.number * 2 ^ (x.width - 1) + read x.number / 2)) }
     ensures makes { OnOk result (Makes out.old out.new) }
 {
     if x.width == 1 {
@@ -47,7 +48,8 @@ fn once_or_never(out: &mut Builder, a: Wire, x: Wire) -> Result<Wire, NoMemory>
     requires low { 1 ≤ a.width }
     requires high { a.width ≤ 64 }
     ensures net { IfOk result (λ y. IsNet out.new.nets y × (y.width ≡ a.width)) }
-    ensures value { IfOk result (λ y. (read : ℕ → ℕ) → SettlesDraft out.new read → SettlesDraft out.old read × (read y.number ≡ read x.number % 2 * read a.number)) }
+    ensures value { IfOk result (λ y. Gives out.old out.new (λ read.
+        read y.number ≡ read x.number % 2 * read a.number)) }
     ensures makes { OnOk result (Makes out.old out.new) }
 {
     let lowest = bit(out, x, 0)?;
@@ -65,7 +67,8 @@ fn make_step(out: &mut Builder, a: Wire, before: Pair) -> Result<Pair, NoMemory>
     requires low { 1 ≤ a.width }
     requires high { a.width ≤ 64 }
     ensures pair { IfOk result (λ y. IsPair out.new.nets a.width y) }
-    ensures value { IfOk result (λ y. (read : ℕ → ℕ) → SettlesDraft out.new read → SettlesDraft out.old read × (state_of read y ≡ product_step a.width (read a.number) (state_of read before))) }
+    ensures value { IfOk result (λ y. Gives out.old out.new (λ read.
+        state_of read y ≡ product_step a.width (read a.number) (state_of read before))) }
     ensures makes { OnOk result (Makes out.old out.new) }
 {
     let addend = once_or_never(out, a, before.low)?;

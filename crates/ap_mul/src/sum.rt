@@ -1,7 +1,9 @@
 //! A sum with its carry, which the subset has no operator for: no net is wider than 64 bits.
-ghost use Rattle.std.specs.Prelude.{◌≡◌, ℕ, ◌+◌, ◌-◌, ◌/◌, ◌%◌, ◌^◌, ◌<◌, ◌≤◌, ◌==◌, if◌then◌else◌, bit_and, bit_or, IfOk, OnOk};
+ghost use Rattle.std.specs.Prelude.{◌≡◌, ◌≤◌, IfOk, OnOk};
 ghost use Rattle.ap_net.specs.Cells.{IsNet};
-ghost use Rattle.ap_net.specs.Draft.{CanFresh, Makes, SettlesDraft};
+ghost use Rattle.ap_net.specs.Draft.{CanFresh, Makes};
+ghost use Rattle.ap_unit.specs.Stepping.{Gives};
+ghost use Rattle.ap_mul.specs.Sums.{sum_at, carry_at, carry_by};
 
 use ap_bits::NoMemory;
 use ap_comb::parts::bit;
@@ -26,8 +28,8 @@ fn carry_of(out: &mut Builder, a: Wire, b: Wire, sum: Wire) -> Result<Wire, NoMe
     requires b_bit { b.width ≡ 1 }
     requires sum_bit { sum.width ≡ 1 }
     ensures net { IfOk result (λ y. IsNet out.new.nets y × (y.width ≡ 1)) }
-    ensures value { IfOk result (λ y. (read : ℕ → ℕ) → SettlesDraft out.new read → SettlesDraft out.old read
-        × (read y.number ≡ (if read sum.number == 1 then bit_and (read a.number) (read b.number) else bit_or (read a.number) (read b.number)))) }
+    ensures value { IfOk result (λ y. Gives out.old out.new (λ read.
+        read y.number ≡ carry_by (read sum.number) (read a.number) (read b.number))) }
     ensures makes { OnOk result (Makes out.old out.new) }
 {
     let both = out.make(1, Cell::Two(TwoOp::And, a, b))?;
@@ -47,8 +49,9 @@ fn carry_out(out: &mut Builder, a: Wire, b: Wire, sum: Wire) -> Result<Wire, NoM
     requires sum_width { sum.width ≡ a.width }
     requires low { 1 ≤ a.width }
     ensures net { IfOk result (λ y. IsNet out.new.nets y × (y.width ≡ 1)) }
-    ensures value { IfOk result (λ y. (read : ℕ → ℕ) → SettlesDraft out.new read → SettlesDraft out.old read
-        × (read sum.number ≡ (read a.number + read b.number) % 2 ^ a.width → read y.number ≡ (read a.number + read b.number) / 2 ^ a.width)) }
+    ensures value { IfOk result (λ y. Gives out.old out.new (λ read.
+        read sum.number ≡ sum_at a.width (read a.number) (read b.number)
+        → read y.number ≡ carry_at a.width (read a.number) (read b.number))) }
     ensures makes { OnOk result (Makes out.old out.new) }
 {
     let top = a.width - 1;
@@ -70,8 +73,9 @@ pub fn sum_with_carry(out: &mut Builder, a: Wire, b: Wire) -> Result<Sum, NoMemo
     requires high { a.width ≤ 64 }
     ensures sum { IfOk result (λ s. IsNet out.new.nets s.sum × (s.sum.width ≡ a.width)) }
     ensures carry { IfOk result (λ s. IsNet out.new.nets s.carry × (s.carry.width ≡ 1)) }
-    ensures value { IfOk result (λ s. (read : ℕ → ℕ) → SettlesDraft out.new read → SettlesDraft out.old read
-        × (read s.sum.number ≡ (read a.number + read b.number) % 2 ^ a.width) × (read s.carry.number ≡ (read a.number + read b.number) / 2 ^ a.width)) }
+    ensures value { IfOk result (λ s. Gives out.old out.new (λ read.
+        (read s.sum.number ≡ sum_at a.width (read a.number) (read b.number))
+        × (read s.carry.number ≡ carry_at a.width (read a.number) (read b.number)))) }
     ensures makes { OnOk result (Makes out.old out.new) }
 {
     let sum = out.make(a.width, Cell::Two(TwoOp::Add, a, b))?;

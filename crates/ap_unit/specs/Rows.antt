@@ -1,5 +1,5 @@
--- Inputs of a unit over some cycles, and assigns of a small module, at which definitions are worked out.
-use Rattle.std.specs.Prelude.{ℕ, List, [], ◌∷◌, codes, slice_index_or, Bool, nat_lt}
+-- Inputs of a unit over some cycles, assigns of a small module, cards, and a method, at which definitions are worked out.
+use Rattle.std.specs.Prelude.{ℕ, ◌+◌, List, [], ◌∷◌, codes, slice_index_or, Bool, nat_lt}
 use Rattle.ap_bits.specs.declared.term.BinOp.TheVariants.{Sub}
 use Rattle.ap_bits.specs.declared.term.Term.{Bin, A, B}
 use Rattle.ap_bits.specs.declared.card.Card.{Card}
@@ -10,6 +10,7 @@ use Rattle.ap_net.specs.declared.cell.TwoOp.TheVariants.{Add}
 use Rattle.ap_net.specs.declared.cell.Cell.TheVariants.{Copy, Two}
 use Rattle.ap_net.specs.declared.net.Assign.{Assign}
 use Rattle.ap_unit.specs.Ages.{UnitInput}
+use Rattle.ap_unit.specs.Methods.{Method}
 
 -- a unit with one operation, asked for 5 and 7, or not asked
 abbrev pub asked : ℕ → UnitInput
@@ -45,3 +46,7 @@ less_card = record { name = codes "less"; ops = record { name = codes "sub"; ter
 
 abbrev pub named_card : List ℕ → Card
 named_card name = record { name = name; ops = []; widths = Any; latency = One }
+
+-- a method that begins with 0 and the first operand, and adds the second one to the high number in each step
+abbrev pub adding_up : Method
+adding_up = record { start = λ a b. record { high = 0; low = a }; step = λ a b state. record { high = state.high + b; low = state.low } }

@@ -111,6 +111,14 @@ pub record HoldsStepper (d : Draft) (unit : Stepper) : Type 0 where
 abbrev pub state_of : (ℕ → ℕ) → Pair → State
 state_of read nets = record { high = read nets.high.number; low = read nets.low.number }
 
+-- fresh wires were made, and in every solution of what is there now this holds
+abbrev pub Gives : Draft → Draft → ((ℕ → ℕ) → Type 0) → Type 0
+Gives old new Fact = (read : ℕ → ℕ) → SettlesDraft new read → SettlesDraft old read × Fact read
+
+-- of two states the first where the bit is 1
+abbrev pub choice_of : ℕ → State → State → State
+choice_of bit first other = if bit == 1 then first else other
+
 -- the state before a step: the first one while no step was made, else what the registers hold
 abbrev pub state_before : Stepper → (ℕ → ℕ) → State → State
 state_before unit read first = if read unit.count.number == 0 then first else state_of read unit.held
@@ -122,15 +130,19 @@ MakesStep d unit method next = (read : ℕ → ℕ) → SettlesDraft d read
 
 -- what the state's registers take: what a step made while steps are left, else what they hold
 abbrev pub kept_state : Stepper → (ℕ → ℕ) → Pair → State
-kept_state unit read next = if read unit.running.number == 1 then state_of read next else state_of read unit.held
+kept_state unit read next = choice_of (read unit.running.number) (state_of read next) (state_of read unit.held)
 
 -- one more while steps are left
 abbrev pub more_count : Stepper → (ℕ → ℕ) → ℕ
 more_count unit read = if read unit.running.number == 1 then (read unit.count.number + 1) % 2 ^ unit.count.width else read unit.count.number
 
--- what the counter takes: 0 after a cycle in which the result is taken or the unit isn't asked
+-- a count, but 0 after a cycle in which the result is taken or the unit isn't asked
+abbrev pub count_unless : Stepper → (ℕ → ℕ) → ℕ → ℕ
+count_unless unit read count = if read unit.adv.number == 1 then 0 else (if read unit.go.number == 1 then count else 0)
+
+-- what the counter takes
 abbrev pub next_count : Stepper → (ℕ → ℕ) → ℕ
-next_count unit read = if read unit.adv.number == 1 then 0 else (if read unit.go.number == 1 then more_count unit read else 0)
+next_count unit read = count_unless unit read (more_count unit read)
 
 -- what the three registers take
 abbrev pub step_nexts : Stepper → Wire → Pair → List Next

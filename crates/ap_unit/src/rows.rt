@@ -6,7 +6,8 @@ ghost use Rattle.ap_unit.specs.Ages.{age_at, IsProperAt};
 ghost use Rattle.ap_unit.specs.Depends.{DependsOnNone};
 ghost use Rattle.ap_unit.specs.Kinds.{place_of, StoodEarlier};
 ghost use Rattle.ap_unit.specs.Units.{ports_by, in_port, out_port};
-ghost use Rattle.ap_unit.specs.Rows.{session_at, hasty_at, chain, less_card, named_card};
+ghost use Rattle.ap_unit.specs.Methods.{after_steps, shown_of};
+ghost use Rattle.ap_unit.specs.Rows.{session_at, hasty_at, chain, less_card, named_card, adding_up};
 
 /// The age rises while the unit is asked, and falls to 0 after a cycle with `adv` and after one in which it isn't asked.
 fn ages()
@@ -57,4 +58,13 @@ fn looks_up()
     }
     ensures earlier { StoodEarlier (codes "less" ∷ codes "more" ∷ codes "less" ∷ []) 2 }
     ensures later { StoodEarlier (codes "less" ∷ codes "more" ∷ codes "less" ∷ []) 1 → ⊥ }
+{}
+
+/// A method that adds the second operand in each step: after three steps from 5 by 7 the high number is 21. Operation 0 shows
+/// the low number, and operation 1 the high one.
+fn steps()
+    ensures none { after_steps adding_up 5 7 0 ≡ record { high = 0; low = 5 } }
+    ensures three { after_steps adding_up 5 7 3 ≡ record { high = 21; low = 5 } }
+    ensures low { shown_of 0 (record { high = 21; low = 5 }) ≡ 5 }
+    ensures high { shown_of 1 (record { high = 21; low = 5 }) ≡ 21 }
 {}

@@ -3,16 +3,16 @@
 //! Here stands what all of them share: the ports, the counter of steps, the registers of the state, and when the unit is
 //! busy. A kind adds the net of its first state and the cells of its step: [`begin_steps`], [`state_before`], its own cells,
 //! [`end_steps`].
-ghost use Rattle.std.specs.Prelude.{◌≡◌, ℕ, ◌+◌, ◌<◌, ◌≤◌, ◌^◌, ◌==◌, if◌then◌else◌, OnOk, IfOk};
+ghost use Rattle.std.specs.Prelude.{◌≡◌, ◌<◌, ◌≤◌, ◌^◌, OnOk, IfOk};
 ghost use Rattle.ap_bits.specs.declared.card.Card.{Card};
 ghost use Rattle.ap_bits.specs.declared.card.Latency.TheVariants.{WidthPlusOne};
 ghost use Rattle.ap_bits.specs.Cards.{select_width};
 ghost use Rattle.ap_net.specs.Cells.{IsNet};
-ghost use Rattle.ap_net.specs.Draft.{CanFresh, Makes, SettlesDraft};
+ghost use Rattle.ap_net.specs.Draft.{CanFresh, Makes};
 ghost use Rattle.ap_unit.specs.Built.{IsBlank, IsUnitDraft};
 ghost use Rattle.ap_unit.specs.Named.{NamesPlainly};
 ghost use Rattle.ap_unit.specs.Methods.{Method, Reaches};
-ghost use Rattle.ap_unit.specs.Stepping.{wire, port_wires, with_ports, with_count, with_registers, with_limit, with_stepper, HoldsStepper, IsPair, MakesStep, state_of, state_before, kept_state, more_count, next_count};
+ghost use Rattle.ap_unit.specs.Stepping.{wire, port_wires, with_ports, with_count, with_registers, with_limit, with_stepper, HoldsStepper, IsPair, MakesStep, Gives, state_of, choice_of, state_before, kept_state, more_count, count_unless, next_count};
 
 use ap_bits::NoMemory;
 use ap_net::builder::Builder;
@@ -190,28 +190,29 @@ pub fn begin_steps(out: &mut Builder, w: u32) -> Result<Stepper, NoMemory>
     })
 }
 
-/// The first state while no step was made, else the second.
+/// Of two states the first where the bit is 1, else the other.
 #[tactic(auto, using(ap_net::proofs::Laws::laws))]
 fn choose_state(
     out: &mut Builder,
-    unstarted: Wire,
+    bit: Wire,
     first: Pair,
     other: Pair,
 ) -> Result<Pair, NoMemory>
     requires fresh { CanFresh out.old }
-    requires unstarted { IsNet out.old.nets unstarted }
-    requires one_bit { unstarted.width ≡ 1 }
+    requires bit { IsNet out.old.nets bit }
+    requires one_bit { bit.width ≡ 1 }
     requires first { IsPair out.old.nets first.high.width first }
     requires other { IsPair out.old.nets first.high.width other }
     requires low { 1 ≤ first.high.width }
     requires high { first.high.width ≤ 64 }
     ensures pair { IfOk result (λ y. IsPair out.new.nets first.high.width y) }
-    ensures value { IfOk result (λ y. (read : ℕ → ℕ) → SettlesDraft out.new read → SettlesDraft out.old read × (state_of read y ≡ (if read unstarted.number == 1 then state_of read first else state_of read other))) }
+    ensures value { IfOk result (λ y. Gives out.old out.new (λ read.
+        state_of read y ≡ choice_of (read bit.number) (state_of read first) (state_of read other))) }
     ensures makes { OnOk result (Makes out.old out.new) }
 {
     let width = first.high.width;
-    let high = out.make(width, Cell::Choose(unstarted, first.high, other.high))?;
-    let low = out.make(width, Cell::Choose(unstarted, first.low, other.low))?;
+    let high = out.make(width, Cell::Choose(bit, first.high, other.high))?;
+    let low = out.make(width, Cell::Choose(bit, first.low, other.low))?;
     Ok(Pair { high, low })
 }
 
@@ -222,7 +223,8 @@ pub fn state_before(out: &mut Builder, unit: Stepper, first: Pair) -> Result<Pai
     requires fresh { CanFresh out.old }
     requires first { IsPair out.old.nets unit.a.width first }
     ensures pair { IfOk result (λ y. IsPair out.new.nets unit.a.width y) }
-    ensures value { IfOk result (λ y. (read : ℕ → ℕ) → SettlesDraft out.new read → SettlesDraft out.old read × (state_of read y ≡ state_before unit read (state_of read first))) }
+    ensures value { IfOk result (λ y. Gives out.old out.new (λ read.
+        state_of read y ≡ state_before unit read (state_of read first))) }
     ensures makes { OnOk result (Makes out.old out.new) }
 {
     let zero = out.make(unit.count.width, Cell::Const(0))?;
@@ -237,7 +239,8 @@ fn count_more(out: &mut Builder, unit: Stepper) -> Result<Wire, NoMemory>
     requires unit { HoldsStepper out.old unit }
     requires fresh { CanFresh out.old }
     ensures net { IfOk result (λ y. IsNet out.new.nets y × (y.width ≡ unit.count.width)) }
-    ensures value { IfOk result (λ y. (read : ℕ → ℕ) → SettlesDraft out.new read → SettlesDraft out.old read × (read y.number ≡ more_count unit read)) }
+    ensures value { IfOk result (λ y. Gives out.old out.new (λ read.
+        read y.number ≡ more_count unit read)) }
     ensures makes { OnOk result (Makes out.old out.new) }
 {
     let width = unit.count.width;
@@ -247,7 +250,7 @@ fn count_more(out: &mut Builder, unit: Stepper) -> Result<Wire, NoMemory>
     Ok(more)
 }
 
-/// What the counter takes: 0 after a cycle in which the result is taken or the unit isn't asked, and else this net.
+/// A count, but 0 after a cycle in which the result is taken or the unit isn't asked.
 #[tactic(auto, using(ap_net::proofs::Laws::laws))]
 fn count_or_rest(out: &mut Builder, unit: Stepper, more: Wire) -> Result<Wire, NoMemory>
     requires unit { HoldsStepper out.old unit }
@@ -255,8 +258,8 @@ fn count_or_rest(out: &mut Builder, unit: Stepper, more: Wire) -> Result<Wire, N
     requires more { IsNet out.old.nets more }
     requires same { more.width ≡ unit.count.width }
     ensures net { IfOk result (λ y. IsNet out.new.nets y × (y.width ≡ unit.count.width)) }
-    ensures value { IfOk result (λ y. (read : ℕ → ℕ) → SettlesDraft out.new read → SettlesDraft out.old read
-        × (read y.number ≡ (if read unit.adv.number == 1 then 0 else (if read unit.go.number == 1 then read more.number else 0)))) }
+    ensures value { IfOk result (λ y. Gives out.old out.new (λ read.
+        read y.number ≡ count_unless unit read (read more.number))) }
     ensures makes { OnOk result (Makes out.old out.new) }
 {
     let width = unit.count.width;
@@ -272,7 +275,8 @@ fn next_count(out: &mut Builder, unit: Stepper) -> Result<Wire, NoMemory>
     requires unit { HoldsStepper out.old unit }
     requires fresh { CanFresh out.old }
     ensures net { IfOk result (λ y. IsNet out.new.nets y × (y.width ≡ unit.count.width)) }
-    ensures value { IfOk result (λ y. (read : ℕ → ℕ) → SettlesDraft out.new read → SettlesDraft out.old read × (read y.number ≡ next_count unit read)) }
+    ensures value { IfOk result (λ y. Gives out.old out.new (λ read.
+        read y.number ≡ next_count unit read)) }
     ensures makes { OnOk result (Makes out.old out.new) }
 {
     let more = count_more(out, unit)?;
@@ -287,7 +291,8 @@ fn kept_state(out: &mut Builder, unit: Stepper, next: Pair) -> Result<Pair, NoMe
     requires fresh { CanFresh out.old }
     requires next { IsPair out.old.nets unit.a.width next }
     ensures pair { IfOk result (λ y. IsPair out.new.nets unit.a.width y) }
-    ensures value { IfOk result (λ y. (read : ℕ → ℕ) → SettlesDraft out.new read → SettlesDraft out.old read × (state_of read y ≡ kept_state unit read next)) }
+    ensures value { IfOk result (λ y. Gives out.old out.new (λ read.
+        state_of read y ≡ kept_state unit read next)) }
     ensures makes { OnOk result (Makes out.old out.new) }
 {
     let kept = choose_state(out, unit.running, next, unit.held)?;
@@ -303,8 +308,10 @@ pub fn end_steps(out: &mut Builder, unit: Stepper, next: Pair) -> Result<(), NoM
     requires next { IsPair out.old.nets unit.a.width next }
     ensures name { OnOk result (out.new.name ≡ out.old.name) }
     ensures names { OnOk result (NamesPlainly out.new) }
-    ensures unit { OnOk result ((card : Card) (method : Method) → card.latency ≡ WidthPlusOne → select_width card ≡ 1
-        → Reaches method card unit.a.width → MakesStep out.old unit method next → IsUnitDraft out.new card unit.a.width) }
+    ensures unit { OnOk result ((card : Card) (method : Method)
+        → card.latency ≡ WidthPlusOne → select_width card ≡ 1
+        → Reaches method card unit.a.width → MakesStep out.old unit method next
+        → IsUnitDraft out.new card unit.a.width) }
 {
     let count = next_count(out, unit)?;
     let state = kept_state(out, unit, next)?;

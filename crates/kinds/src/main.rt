@@ -10,6 +10,8 @@ ghost use Rattle.kinds.specs.Texts.{IsKindNamed, IsTextFor, IsUnitText};
 
 use ap_bits::NoMemory;
 use ap_comb::{Alu, Avg, Count, Shift};
+use ap_div::Div;
+use ap_mul::Mul;
 use ap_net::builder::Builder;
 use ap_net::module::Netlist;
 use ap_net::write::write;
@@ -82,6 +84,8 @@ fn main(rt: HostRuntime) -> io::Result<()> {
     kinds.push(Box::new(alloc, Shift)?)?;
     kinds.push(Box::new(alloc, Count)?)?;
     kinds.push(Box::new(alloc, Avg)?)?;
+    kinds.push(Box::new(alloc, Mul)?)?;
+    kinds.push(Box::new(alloc, Div)?)?;
     let Ok(shelf) = Shelf::new(kinds) else {
         return println!(rt; "two kinds of one name");
     };

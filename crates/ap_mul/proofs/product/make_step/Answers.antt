@@ -14,7 +14,7 @@ returns-clause-value c = λ read s.
       addend.0,
       made_step c.args.a.width (read c.args.a.number) (read before.high.number) (read before.low.number) (read c.in_ok-addend.addend.number) (read sum.sum.number) (read sum.carry.number) (read c.in_ok-lowest.lowest.number)
           (read c.in_ok-high.high.number) (read c.in_ok-low.low.number) sum.sum.width before.high.width before.low.width c.requires.low c.in_ok-total.ensures.sum.1 c.requires.before.high_width c.requires.before.low_width
-          addend.1 total.1 total.2 lowest.1 high.1 low.1,
+          addend.1 total.1.0 total.1.1 lowest.1 high.1 low.1,
     )
 
 pub returns-clause-makes : goal.returns-clause-makes

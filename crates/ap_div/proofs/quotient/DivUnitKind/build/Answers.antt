@@ -1,0 +1,17 @@
+use Rattle.std.proofs.Common.{refl, subst}
+use Rattle.std.proofs.lemmas.Result.{on_ok_weaker}
+use Rattle.ap_unit.specs.Built.{IsUnitDraft}
+use Rattle.ap_unit.proofs.Begun.{HoldsStepper-Makes}
+use Rattle.ap_div.specs.Quotients.{div_card, divide}
+use Rattle.ap_div.proofs.Divided.{divided}
+use Rattle.ap_div.proofs.quotient.DivUnitKind.build.Goals as goal
+
+pub end_steps-requires-clause-unit : goal.end_steps-requires-clause-unit
+end_steps-requires-clause-unit c = HoldsStepper-Makes _ _ _ c.in_ok-next.ensures.makes c.in_ok-unit.ensures.unit
+
+pub returns-clause-unit : goal.returns-clause-unit
+returns-clause-unit c =
+    let w = c.in_ok-unit.unit.a.width in
+    on_ok_weaker c.end_steps.result
+    (λ all. subst (IsUnitDraft c.end_steps.new.out div_card) c.in_ok-unit.ensures.width (all div_card (divide w) refl refl (divided w) c.in_ok-next.ensures.step))
+    c.end_steps.ensures.unit

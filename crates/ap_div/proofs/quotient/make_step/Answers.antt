@@ -1,0 +1,33 @@
+use Rattle.std.proofs.Common.{◌<◌, ◌^◌, subst, sym}
+use Rattle.ap_net.proofs.Laws.{Makes-trans}
+use Rattle.ap_unit.specs.Stepping.{IsPair}
+use Rattle.ap_div.proofs.Differences.{made_step}
+use Rattle.ap_div.proofs.quotient.make_step.Goals as goal
+
+pub longer-requires-clause-before : goal.longer-requires-clause-before
+longer-requires-clause-before c = subst (λ n. IsPair c.args.out.now.nets n c.args.before) (sym c.requires.before.high_width) c.requires.before
+
+pub returns-clause-value : goal.returns-clause-value
+returns-clause-value c = λ read s.
+    let low = c.in_ok-low.ensures.value read s in
+    let high = c.in_ok-high.ensures.value read low.0 in
+    let fits = c.in_ok-fits.ensures.value read high.0 in
+    let less = c.in_ok-less.ensures.value read fits.0 in
+    let rest = c.in_ok-rest.ensures.value read less.0 in
+    let before = c.args.before in
+    let pair = c.requires.before in
+    let b = c.args.b in
+    let fits_b = rest.0.fits b.number b.width c.requires.b.declared in
+    let fits_high = subst (λ n. read before.high.number < 2 ^ n) pair.high_width (rest.0.fits before.high.number before.high.width pair.high.declared) in
+    let fits_low = subst (λ n. read before.low.number < 2 ^ n) pair.low_width (rest.0.fits before.low.number before.low.width pair.low.declared) in (
+      rest.0,
+      made_step b.width (read b.number) (read before.high.number) (read before.low.number) (read c.in_ok-rest.rest.number) (read c.in_ok-less.less.difference.number) (read c.in_ok-less.less.covers.number)
+          (read c.in_ok-fits.fits.number) (read c.in_ok-high.high.number) (read c.in_ok-low.low.number) before.high.width before.low.width c.in_ok-rest.rest.width c.requires.low fits_b fits_high fits_low
+          c.in_ok-rest.ensures.net.1 pair.high_width pair.low_width rest.1 less.1.0 less.1.1 fits.1 high.1 low.1,
+    )
+
+pub returns-clause-makes : goal.returns-clause-makes
+returns-clause-makes c =
+    let first = Makes-trans _ _ _ c.in_ok-rest.ensures.makes c.in_ok-less.ensures.makes in
+    let last = Makes-trans _ _ _ c.in_ok-high.ensures.makes c.in_ok-low.ensures.makes in
+    Makes-trans _ _ _ first (Makes-trans _ _ _ c.in_ok-fits.ensures.makes last)
