@@ -6,9 +6,8 @@ use Rattle.std.specs.Option.{option_map_or}
 use Rattle.std.proofs.lemmas.Bool.{and_parts, leb-true, ltb-true, not-false}
 use Rattle.std.proofs.lemmas.Option.{slice_get_read, slice_get_within}
 use Rattle.std.proofs.lemmas.Slice.Zip.{length-zip}
-use Rattle.ap_desc.specs.Designs.{Matches, field_value, mask_bits, value_bits}
+use Rattle.ap_desc.specs.Designs.{Matches, field_value, mask_bits, value_bits, fields_of}
 use Rattle.ap_desc.specs.Sound.{AreFixedFitting, IsEncoded, IsSound, fits_field}
-use Rattle.ap_desc.specs.WordFaults.{fields_of}
 use Rattle.ap_desc.specs.declared.design.Design.{Design}
 use Rattle.ap_desc.specs.declared.design.Field.{Field}
 use Rattle.ap_desc.specs.declared.design.Format.{Format}

@@ -1,8 +1,8 @@
 -- What is wrong with the word of one instruction, and the first instruction with which something is.
 use Rattle.std.specs.Prelude.{ℕ, ◌==◌, ◌&&◌, Bool, take, bit_and, zip, Option, Some, None, option_and_then, slice_get, if◌then◌else◌}
 use Rattle.std.specs.List.{list_any}
-use Rattle.ap_desc.specs.Designs.{is_named_nop}
-use Rattle.ap_desc.specs.WordFaults.{fields_of, has_lines, is_unfit}
+use Rattle.ap_desc.specs.Designs.{is_named_nop, fields_of}
+use Rattle.ap_desc.specs.WordFaults.{has_lines, is_unfit}
 use Rattle.ap_desc.specs.declared.design.Design.{Design}
 use Rattle.ap_desc.specs.declared.design.Instr.{Instr}
 use Rattle.ap_desc.specs.declared.fault.Fault.{Fault}

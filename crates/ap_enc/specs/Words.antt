@@ -2,8 +2,7 @@
 -- instruction that a word matches. The rules are the project's own.
 use Rattle.std.specs.Prelude.{◌≡◌, ℕ, ◌^◌, ◌<◌, nat_lt, not, Bool, List, [], map, filter_map, position, zip, Option, Some, None, IsSomeAnd, slice_get}
 use Rattle.std.specs.Option.{option_map_or}
-use Rattle.ap_desc.specs.Designs.{Matches, field_value}
-use Rattle.ap_desc.specs.WordFaults.{fields_of}
+use Rattle.ap_desc.specs.Designs.{Matches, field_value, fields_of}
 use Rattle.ap_desc.specs.declared.design.Design.{Design}
 use Rattle.ap_desc.specs.declared.design.Field.{Field}
 use Rattle.ap_desc.specs.declared.design.Instr.{Instr}

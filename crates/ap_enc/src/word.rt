@@ -1,8 +1,7 @@
 //! The instruction that a word matches, and the word of an instruction.
 ghost use Rattle.std.specs.Prelude.{◌≡◌, ℕ, ◌/◌, ◌%◌, ◌^◌, ◌<◌, ◌≤◌, ◌==◌, ◌↔◌, nat_lt, bit_and, length, filter_map, position, zip, IsOk, IfOk, IfErr, IfSome, IfNone};
 ghost use Rattle.ap_desc.specs.Clean.{IsClean};
-ghost use Rattle.ap_desc.specs.Designs.{field_value};
-ghost use Rattle.ap_desc.specs.WordFaults.{fields_of};
+ghost use Rattle.ap_desc.specs.Designs.{field_value, fields_of};
 ghost use Rattle.ap_desc.specs.declared.design.Instr.{Instr};
 ghost use Rattle.ap_enc.specs.Packed.{AreSideBySide, DoFit, free_width, packed, width_of};
 ghost use Rattle.ap_enc.specs.Words.{IsOnlyMatch, IsWordOf, MatchesAt, first_unfit, is_too_wide, operands_at};
