@@ -94,10 +94,14 @@ unprinted_cause {T = T} {U = U} call before mid after trouble same h = subst (λ
 pub failed_later : (call : Call) (before mid after : Counts) → mid.faults ≤ after.faults → after.absent ≡ mid.absent → HasFailed call before mid → HasFailed call before after
 failed_later call before mid after faults absent failed = ⊎_elim
     (λ rose. inl (let h : Rose before.faults mid.faults = rose in omega arith))
-    (λ asked. inr (asked.0, asked.1, ⊎_elim
-    (λ rose. inl (let h : Rose before.faults mid.faults = rose in omega arith))
-    (λ missed. inr ((let h : Rose before.absent mid.absent = missed.0 in omega arith), missed.1))
-    asked.2))
+    (λ asked. inr (
+      asked.0,
+      asked.1,
+      ⊎_elim
+          (λ rose. inl (let h : Rose before.faults mid.faults = rose in omega arith))
+          (λ missed. inr ((let h : Rose before.absent mid.absent = missed.0 in omega arith), missed.1))
+          asked.2,
+    ))
     failed
 
 -- The work gave up for this trouble, whose status is answered after its line was tried: where the status is that of the desk, the desk failed,

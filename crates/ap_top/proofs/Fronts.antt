@@ -15,7 +15,7 @@ use Rattle.ap_top.specs.declared.form.Form.{Form}
 use Rattle.ap_top.specs.declared.pattern.Letter.TheVariants.{Start, Width}
 use Rattle.ap_top.specs.declared.pattern.Piece.{Piece}
 use Rattle.ap_bits.specs.Beside.{EachBeside}
-use Rattle.ap_top.specs.Form.{AreFirstLines, AreLines, BeginForm, HasAddition, HasUnit, IsForm, IsLine, IsNotBuiltAt, IsToken, Token, exactly, first_form, numbered}
+use Rattle.ap_top.specs.Form.{AreFirstLines, AreLines, BeginForm, HasAddition, HasUnit, IsForm, IsLine, IsNotBuiltAt, IsDueToken, DueToken, exactly, first_form, numbered}
 use Rattle.ap_top.specs.Found.{Agrees, IsServed, TakesFitting, token_of}
 use Rattle.ap_top.proofs.Matching.{lengths_of}
 use Rattle.ap_top.proofs.Words.{rest_from}
@@ -60,7 +60,7 @@ length_front i xs le = simp length-take (omega arith)
 -- the table has the form's line
 pub due_after : (table : List (Bor (List Piece))) (i : ℕ) (d : Bor (List Piece)) → map (λ pieces. map token_of pieces.now) table ≡ first_form → i < length first_form → take (i + 1) first_form ≡ take i first_form ++ map token_of (get_or table i d).now ∷ []
 due_after table i d e lt =
-    let inside : i < length table = simp length-map at (subst (λ (l : List (List Token)). i < length l) (sym e) lt) in
+    let inside : i < length table = simp length-map at (subst (λ (l : List (List DueToken)). i < length l) (sym e) lt) in
     rw (← e) (take_more (map (λ (pieces : Bor (List Piece)). map token_of pieces.now) table) i (map token_of (get_or table i d).now) (simp length-map inside)
     ∙ ap (λ l. take i (map (λ (pieces : Bor (List Piece)). map token_of pieces.now) table) ++ l ∷ []) (get_or-map (λ (pieces : Bor (List Piece)). map token_of pieces.now) table i d (map token_of (get_or table i d).now) inside))
 
@@ -94,7 +94,7 @@ begun_none cards found lines all = record {
 }
 
 -- two forms with the same line `reg` have one width
-same_token : (one other : Form) (a b d : Token) (tokens : List (List ℕ)) → EachBeside (IsToken one) (a ∷ b ∷ numbered Width ∷ d ∷ []) tokens → EachBeside (IsToken other) (a ∷ b ∷ numbered Width ∷ d ∷ []) tokens → one.width ≡ other.width
+same_token : (one other : Form) (a b d : DueToken) (tokens : List (List ℕ)) → EachBeside (IsDueToken one) (a ∷ b ∷ numbered Width ∷ d ∷ []) tokens → EachBeside (IsDueToken other) (a ∷ b ∷ numbered Width ∷ d ∷ []) tokens → one.width ≡ other.width
 same_token one other a b d [] h g = absurd h
 same_token one other a b d (x ∷ []) h g = absurd h.1
 same_token one other a b d (x ∷ y ∷ []) h g = absurd h.1.1
@@ -114,7 +114,7 @@ same_width one other (a ∷ b ∷ c ∷ d ∷ []) h g = absurd h.1.1.1.1
 same_width one other (a ∷ b ∷ c ∷ d ∷ e ∷ lines) h g = same_token one other (exactly (codes "reg")) (exactly (codes "R")) (numbered Start) e.tokens h.1.1.1.1.0.1 g.1.1.1.1.0.1
 
 -- one more line was taken, and the shelf has what it asks for
-pub begun_more : (cards : List Card) (found next : List (Option ℕ)) (lines : List TextLine) (i : ℕ) (due : List Token) (line : TextLine) → i < length first_form → i < length lines → take (i + 1) first_form ≡ take i first_form ++ due ∷ [] → take (i + 1) lines ≡ take i lines ++ line ∷ []
+pub begun_more : (cards : List Card) (found next : List (Option ℕ)) (lines : List TextLine) (i : ℕ) (due : List DueToken) (line : TextLine) → i < length first_form → i < length lines → take (i + 1) first_form ≡ take i first_form ++ due ∷ [] → take (i + 1) lines ≡ take i lines ++ line ∷ []
     → Begun cards found lines i → TakesFitting found next (λ form. IsLine form due line) true → IsServed cards next i true → Begun cards next lines (i + 1)
 begun_more cards found next lines i due line lt lt' e g h takes served =
     let same : (form : Form) → Agrees next form ↔ AreLines form (take (i + 1) first_form) (take (i + 1) lines) = λ form. (
@@ -137,13 +137,13 @@ begun_more cards found next lines i due line lt lt' e g h takes served =
     }
 
 -- the lines with the next one, of a form that they begin
-with_next : (form : Form) (lines : List TextLine) (i : ℕ) (due : List Token) (line : TextLine) → i < length lines → AreFirstLines form (take i lines ++ line ∷ []) → AreLines form (take (i + 1) first_form) (take i lines ++ line ∷ [])
+with_next : (form : Form) (lines : List TextLine) (i : ℕ) (due : List DueToken) (line : TextLine) → i < length lines → AreFirstLines form (take i lines ++ line ∷ []) → AreLines form (take (i + 1) first_form) (take i lines ++ line ∷ [])
 with_next form lines i due line lt h =
     let longer : length (take i lines ++ line ∷ []) ≡ i + 1 = length-append (take i lines) (line ∷ []) ∙ ap (λ n. n + 1) (length_front i lines (omega arith)) in
     first_lines form (take i lines ++ line ∷ []) (i + 1) longer h
 
 -- the next line isn't due
-pub wrong_line : (cards : List Card) (found next : List (Option ℕ)) (lines : List TextLine) (i : ℕ) (due : List Token) (line : TextLine) → i < length lines → take (i + 1) first_form ≡ take i first_form ++ due ∷ []
+pub wrong_line : (cards : List Card) (found next : List (Option ℕ)) (lines : List TextLine) (i : ℕ) (due : List DueToken) (line : TextLine) → i < length lines → take (i + 1) first_form ≡ take i first_form ++ due ∷ []
     → Begun cards found lines i → TakesFitting found next (λ form. IsLine form due line) false → BeginForm cards (take i lines ++ line ∷ []) → ⊥
 wrong_line cards found next lines i due line lt e h takes more =
     let all = with_next more.0 lines i due line lt more.1 in
@@ -151,7 +151,7 @@ wrong_line cards found next lines i due line lt e h takes more =
     takes.none refl more.0 ((h.same more.0).1 both.0) both.1 more.2
 
 -- the next line is due but for the unit, which the shelf hasn't
-pub unit_missing : (cards : List Card) (found next : List (Option ℕ)) (lines : List TextLine) (i : ℕ) (due : List Token) (line : TextLine) → i < length lines → take (i + 1) first_form ≡ take i first_form ++ due ∷ []
+pub unit_missing : (cards : List Card) (found next : List (Option ℕ)) (lines : List TextLine) (i : ℕ) (due : List DueToken) (line : TextLine) → i < length lines → take (i + 1) first_form ≡ take i first_form ++ due ∷ []
     → Begun cards found lines i → TakesFitting found next (λ form. IsLine form due line) true → IsServed cards next i false → BeginForm cards (take i lines ++ line ∷ []) → ⊥
 unit_missing cards found next lines i due line lt e h takes served more =
     let is = served.asks refl in
@@ -181,7 +181,7 @@ all_lines cards found lines i le h = subst (BeginForm cards) (take_all i lines l
 
 pub form_of_all : (cards : List Card) (found : List (Option ℕ)) (lines : List TextLine) (i : ℕ) (form : Form) → length lines ≤ i → length first_form ≤ i → Begun cards found lines i → Agrees found form → AreLines form first_form lines
 form_of_all cards found lines i form le le' h agrees =
-    subst (λ (l : List TextLine). AreLines form first_form l) (take_all i lines le) (subst (λ (l : List (List Token)). AreLines form l (take i lines)) (take_all i first_form le') ((h.same form).0 agrees))
+    subst (λ (l : List TextLine). AreLines form first_form l) (take_all i lines le) (subst (λ (l : List (List DueToken)). AreLines form l (take i lines)) (take_all i first_form le') ((h.same form).0 agrees))
 
 -- and the shelf has its unit
 pub unit_of_all : (cards : List Card) (found : List (Option ℕ)) (lines : List TextLine) (i : ℕ) (form : Form) → length lines ≤ i → length first_form ≤ length lines → Begun cards found lines i → Agrees found form → HasAddition cards form.width

@@ -25,10 +25,10 @@ use Rattle.ap_top.specs.Additions.{Operation, IsAddition}
 use Rattle.ap_top.specs.Calls.{Call}
 use Rattle.ap_top.specs.DesignText.{IsDesignText}
 use Rattle.ap_top.specs.Endings.{IsAnswer, IsDone}
-use Rattle.ap_top.specs.Form.{AreLines, HasAddition, HasJudgedFault, IsDescription, IsForm, IsLine, IsNotBuiltAt, IsReadFault, Token, first_form}
+use Rattle.ap_top.specs.Form.{AreLines, HasAddition, HasJudgedFault, IsFormDescription, IsForm, IsLine, IsNotBuiltAt, HasReadFault, DueToken, first_form}
 use Rattle.ap_top.specs.Generate.{gen_sources, gen_targets}
 use Rattle.ap_top.specs.Inputs as inputs
-use Rattle.ap_top.specs.Inputs.{AreGood, AreInputsGood, AsksRefusal, HasGoodInputs, IsGood, IsRefusalDue, IsRefused, RefusesOne, Source, inputs_of, with_text}
+use Rattle.ap_top.specs.Inputs.{AreGood, AreInputsGood, AsksRefusal, HasGoodInputs, IsGoodInput, IsRefusalDue, IsRefused, RefusesOne, Source, inputs_of, with_text}
 use Rattle.ap_top.specs.Outputs.{Target, FromGood, IsBegunOn, Writes}
 use Rattle.ap_top.specs.Refusals.{IsOrMemory, refusal_status, stop_of}
 use Rattle.ap_top.specs.Troubles.{StopsOn}
@@ -36,7 +36,7 @@ use Rattle.ap_top.proofs.Matching.{lengths_of}
 
 module _ (cards : List Card) where
   -- the first lines of a form's lines begin the form
-  front_begins : (form : Form) (dues : List (List Token)) (front rest : List TextLine) → AreLines form dues (front ++ rest) → AreLines form (take (length front) dues) front
+  front_begins : (form : Form) (dues : List (List DueToken)) (front rest : List TextLine) → AreLines form dues (front ++ rest) → AreLines form (take (length front) dues) front
   front_begins form dues [] rest h = tt
   front_begins form [] (line ∷ front) rest h = absurd h
   front_begins form (due ∷ dues) (line ∷ front) rest h = (h.0, front_begins form dues front rest h.1)
@@ -49,7 +49,7 @@ module _ (cards : List Card) where
       h
 
   -- a description without fault has none
-  good_not_refused : (text : List ℕ) (form : Form) (judged : Judged) → IsDescription cards text form → HasJudgedFault cards text judged → ⊥
+  good_not_refused : (text : List ℕ) (form : Form) (judged : Judged) → IsFormDescription cards text form → HasJudgedFault cards text judged → ⊥
   good_not_refused text form (judged.Refused refusal) good fault = good.faultless refusal.kind refusal.line fault.holds
   good_not_refused text form (judged.NotBuilt line) good fault = built (lines_of text) form line good.first.lines good.first.ranges good.unit fault.1
 
@@ -120,8 +120,8 @@ module _ (cards : List Card) where
   file_refused : (files : Files) (name bytes : List ℕ) (judged : Judged) → ReadsUpTo files name 1048576 bytes → HasJudgedFault cards bytes judged → HasJudgedFault cards (content files name) judged
   file_refused files name bytes judged h fault = ⊎_elim (λ e. subst (λ t. HasJudgedFault cards t judged) e fault) (λ long. long_refused bytes (content files name) judged long.0 long.1 fault) (read_same files name bytes h)
 
-  file_good : (files : Files) (name bytes : List ℕ) (form : Form) → ReadsUpTo files name 1048576 bytes → IsDescription cards bytes form → IsDescription cards (content files name) form
-  file_good files name bytes form h good = ⊎_elim (λ e. subst (λ t. IsDescription cards t form) e good) (λ long. absurd (long_never bytes long.0 good.faultless)) (read_same files name bytes h)
+  file_good : (files : Files) (name bytes : List ℕ) (form : Form) → ReadsUpTo files name 1048576 bytes → IsFormDescription cards bytes form → IsFormDescription cards (content files name) form
+  file_good files name bytes form h good = ⊎_elim (λ e. subst (λ t. IsFormDescription cards t form) e good) (λ long. absurd (long_never bytes long.0 good.faultless)) (read_same files name bytes h)
 
   unchanged : (sources : List Source) (targets : List Target) (told told' : Option Files) → told' ≡ told → Goes (IsBegunOn cards sources targets) told told'
   unchanged sources targets told told' e = subst (λ (t : Option Files). Goes (IsBegunOn cards sources targets) told t) (sym e) (stayed told)
@@ -131,22 +131,22 @@ module _ (cards : List Card) where
       stayed (Some files) = inl refl
 
   -- judging stopped the work
-  pub judged_stop : (told told' : Option Files) (d v bytes : List ℕ) (fault : ReadFault) → told' ≡ told → IfSome told (λ files. ReadsUpTo files d 1048576 bytes) → IsReadFault cards bytes fault → StopsOn cards (gen_sources d) (gen_targets v) told told' (stop_of fault)
+  pub judged_stop : (told told' : Option Files) (d v bytes : List ℕ) (fault : ReadFault) → told' ≡ told → IfSome told (λ files. ReadsUpTo files d 1048576 bytes) → HasReadFault cards bytes fault → StopsOn cards (gen_sources d) (gen_targets v) told told' (stop_of fault)
   judged_stop None told' d v bytes (reading.Refused judged) e reads fault = (e, tt)
   judged_stop (Some files) told' d v bytes (reading.Refused judged) e reads fault = (e, inl (reads.there, file_refused files d bytes judged reads fault))
   judged_stop told told' d v bytes reading.NoMemory e reads fault = unchanged (gen_sources d) (gen_targets v) told told' e
 
-  good_sources : (files : Files) (d bytes : List ℕ) (form : Form) → ReadsUpTo files d 1048576 bytes → IsDescription cards bytes form → AreGood cards files [] (gen_sources d)
+  good_sources : (files : Files) (d bytes : List ℕ) (form : Form) → ReadsUpTo files d 1048576 bytes → IsFormDescription cards bytes form → AreGood cards files [] (gen_sources d)
   good_sources files d bytes form reads good = (record { there = reads.there; faultless = (form, file_good files d bytes form reads good) }, tt)
 
-  front_written : (files new : Files) (d v bytes text : List ℕ) (form : Form) → ReadsUpTo files d 1048576 bytes → IsDescription cards bytes form → (operation : Operation) → IsAddition cards form.width operation → IsDesignText operation form text → BecomesFrontOrStays v text files new → IsBegunOn cards (gen_sources d) (gen_targets v) files new
+  front_written : (files new : Files) (d v bytes text : List ℕ) (form : Form) → ReadsUpTo files d 1048576 bytes → IsFormDescription cards bytes form → (operation : Operation) → IsAddition cards form.width operation → IsDesignText operation form text → BecomesFrontOrStays v text files new → IsBegunOn cards (gen_sources d) (gen_targets v) files new
   front_written files new d v bytes text form reads good operation adds design h = ⊎_elim
       (λ same. inl same)
       (λ front. inr (good_sources files d bytes form reads good, inr (text, front.0, (form, file_good files d bytes form reads good, operation, adds, design), front.1)))
       h
 
   -- writing stopped the work
-  pub writing_stop : (told mid told' : Option Files) (d v bytes text : List ℕ) (form : Form) → mid ≡ told → IfSome told (λ files. ReadsUpTo files d 1048576 bytes) → IsDescription cards bytes form → (operation : Operation) → IsAddition cards form.width operation → IsDesignText operation form text → Goes (BecomesFrontOrStays v text) mid told' → Goes (IsBegunOn cards (gen_sources d) (gen_targets v)) told told'
+  pub writing_stop : (told mid told' : Option Files) (d v bytes text : List ℕ) (form : Form) → mid ≡ told → IfSome told (λ files. ReadsUpTo files d 1048576 bytes) → IsFormDescription cards bytes form → (operation : Operation) → IsAddition cards form.width operation → IsDesignText operation form text → Goes (BecomesFrontOrStays v text) mid told' → Goes (IsBegunOn cards (gen_sources d) (gen_targets v)) told told'
   writing_stop told mid told' d v bytes text form e reads good operation adds design h = by_cases told told' reads (subst (λ (t : Option Files). Goes (BecomesFrontOrStays v text) t told') e h)
     where
       by_cases : (told told' : Option Files) → IfSome told (λ files. ReadsUpTo files d 1048576 bytes) → Goes (BecomesFrontOrStays v text) told told' → Goes (IsBegunOn cards (gen_sources d) (gen_targets v)) told told'
@@ -156,7 +156,7 @@ module _ (cards : List Card) where
       by_cases (Some files) (Some new) reads h = front_written files new d v bytes text form reads good operation adds design h
 
   -- all is written
-  pub written : (told mid told' : Option Files) (d v bytes text : List ℕ) (form : Form) → mid ≡ told → IfSome told (λ files. ReadsUpTo files d 1048576 bytes) → IsDescription cards bytes form → (operation : Operation) → IsAddition cards form.width operation → IsDesignText operation form text → Goes (Becomes v text) mid told' → Goes (FromGood cards Writes (gen_sources d) (gen_targets v)) told told'
+  pub written : (told mid told' : Option Files) (d v bytes text : List ℕ) (form : Form) → mid ≡ told → IfSome told (λ files. ReadsUpTo files d 1048576 bytes) → IsFormDescription cards bytes form → (operation : Operation) → IsAddition cards form.width operation → IsDesignText operation form text → Goes (Becomes v text) mid told' → Goes (FromGood cards Writes (gen_sources d) (gen_targets v)) told told'
   written told mid told' d v bytes text form e reads good operation adds design h = by_cases told told' reads (subst (λ (t : Option Files). Goes (Becomes v text) t told') e h)
     where
       by_cases : (told told' : Option Files) → IfSome told (λ files. ReadsUpTo files d 1048576 bytes) → Goes (Becomes v text) told told' → Goes (FromGood cards Writes (gen_sources d) (gen_targets v)) told told'

@@ -6,7 +6,7 @@ use Rattle.std.proofs.Math.Pow.{pow_mono}
 use Rattle.ap_top.specs.declared.form.Form.{Form}
 use Rattle.ap_top.specs.declared.pattern.Letter.TheVariants.{Word, Width, Start, Code, Constant}
 use Rattle.ap_top.specs.Form.{AreValuesFitting, IsForm}
-use Rattle.ap_top.specs.Found.{Agrees, Takes, TakesFitting, found_at}
+use Rattle.ap_top.specs.Found.{Agrees, TakesPart, TakesFitting, found_at}
 
 -- where a form agrees, the value is the form's or the other one
 pub within_part : (o : Option ℕ) (other value low high given : ℕ) → value ≡ unwrap_or o other → IfSome o (λ v. given ≡ v) → low ≤ given → given ≤ high → low ≤ other → other ≤ high → (low ≤ value) × (value ≤ high)
@@ -50,7 +50,7 @@ no_form None found h = h
 no_form (Some form) found h = tt
 
 -- taking a part where some form has all numbers that were found
-pub takes_fitting : (old new : List (Option ℕ)) (fact : Form → Type 0) (o : Option Form) (taken : Bool) → taken ≡ is_some o → Takes old new fact true → IfSome o (λ form. Agrees new form × IsForm form) → IfNone o ((form : Form) → Agrees new form → IsForm form → ⊥) → TakesFitting old new fact taken
+pub takes_fitting : (old new : List (Option ℕ)) (fact : Form → Type 0) (o : Option Form) (taken : Bool) → taken ≡ is_some o → TakesPart old new fact true → IfSome o (λ form. Agrees new form × IsForm form) → IfNone o ((form : Form) → Agrees new form → IsForm form → ⊥) → TakesFitting old new fact taken
 takes_fitting old new fact None taken e takes some none = record {
   some = λ is. let wrong = sym e ∙ is in cc;
   fits = λ is. let wrong = sym e ∙ is in cc;

@@ -5,7 +5,7 @@ use Rattle.std.proofs.Math.ListN.{length-map}
 use Rattle.std.proofs.lemmas.List.{drop_all, take_all, get_or-map, get_or_default}
 use Rattle.std.proofs.lemmas.Slice.Zip.{get_or-zip, length-zip}
 use Rattle.std.specs.List.{AllByRecursion as Each, zip}
-use Rattle.ap_top.specs.Commands.{Operand, AreApart, MayStandWith}
+use Rattle.ap_top.specs.Commands.{Operand, AreWordsApart, MayStandWith}
 
 never : {A : Type 0} → IsTrue false → A
 never wrong = cc
@@ -62,18 +62,18 @@ zip-drop f (suc n) (x ∷ xs) [] = zip-none (drop n xs)
 zip-drop f (suc n) (x ∷ xs) (y ∷ ys) = zip-drop f n xs ys
 
 -- the same step for words that are apart
-pub apart_step : (operands : List Operand) (i : ℕ) (operand : Operand) → i < length operands → operand ≡ get_or operands i operand → Each (MayStandWith operand) (drop (i + 1) operands) → (AreApart (drop i operands) ↔ AreApart operands) → (AreApart (drop (i + 1) operands) ↔ AreApart operands)
+pub apart_step : (operands : List Operand) (i : ℕ) (operand : Operand) → i < length operands → operand ≡ get_or operands i operand → Each (MayStandWith operand) (drop (i + 1) operands) → (AreWordsApart (drop i operands) ↔ AreWordsApart operands) → (AreWordsApart (drop (i + 1) operands) ↔ AreWordsApart operands)
 apart_step operands i operand lt e holds same =
     let split = rest_from operands i operand lt e in
-    ((λ rest. same.0 (subst AreApart (sym split) (holds, rest))), (λ all. (subst AreApart split (same.1 all)).1))
+    ((λ rest. same.0 (subst AreWordsApart (sym split) (holds, rest))), (λ all. (subst AreWordsApart split (same.1 all)).1))
 
-pub apart_stop : (operands : List Operand) (i : ℕ) (operand : Operand) → i < length operands → operand ≡ get_or operands i operand → (Each (MayStandWith operand) (drop (i + 1) operands) → ⊥) → (AreApart (drop i operands) ↔ AreApart operands) → (IsTrue false ↔ AreApart operands)
+pub apart_stop : (operands : List Operand) (i : ℕ) (operand : Operand) → i < length operands → operand ≡ get_or operands i operand → (Each (MayStandWith operand) (drop (i + 1) operands) → ⊥) → (AreWordsApart (drop i operands) ↔ AreWordsApart operands) → (IsTrue false ↔ AreWordsApart operands)
 apart_stop operands i operand lt e fails same =
     let split = rest_from operands i operand lt e in
-    ((λ wrong. never wrong), (λ all. absurd (fails (subst AreApart split (same.1 all)).0)))
+    ((λ wrong. never wrong), (λ all. absurd (fails (subst AreWordsApart split (same.1 all)).0)))
 
-pub apart_end : (operands : List Operand) (i : ℕ) → length operands ≤ i → (AreApart (drop i operands) ↔ AreApart operands) → (IsTrue true ↔ AreApart operands)
-apart_end operands i le same = ((λ _. same.0 (subst AreApart (sym (drop_all i operands le)) tt)), (λ _. refl))
+pub apart_end : (operands : List Operand) (i : ℕ) → length operands ≤ i → (AreWordsApart (drop i operands) ↔ AreWordsApart operands) → (IsTrue true ↔ AreWordsApart operands)
+apart_end operands i le same = ((λ _. same.0 (subst AreWordsApart (sym (drop_all i operands le)) tt)), (λ _. refl))
 
 all_of_rest : {X : Type 0} (n : ℕ) (xs : List X) → take (length xs - n) (drop n xs) ≡ drop n xs
 all_of_rest n xs = let short : length (drop n xs) ≤ length xs - n = rw length-drop (omega arith) in take_all (length xs - n) (drop n xs) short

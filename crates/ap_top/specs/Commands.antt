@@ -35,20 +35,20 @@ abbrev pub MayStandWith : Operand → Operand → Type 0
 MayStandWith operand other = operand.1 ≡ other.1 → IsInput operand.0 × IsInput other.0
 
 -- each word may stand with each later one
-abbrev pub AreApart : List Operand → Type 0
-AreApart [] = Unit {0}
-AreApart (operand ∷ operands) = Each (MayStandWith operand) operands × AreApart operands
+abbrev pub AreWordsApart : List Operand → Type 0
+AreWordsApart [] = Unit {0}
+AreWordsApart (operand ∷ operands) = Each (MayStandWith operand) operands × AreWordsApart operands
 
 -- the words after a command's name are right: their number, each by itself, and none that is written twice or also read
-pub record Takes (command : Command) (words : List (List ℕ)) : Type 0 where
+pub record AreOperandsOf (command : Command) (words : List (List ℕ)) : Type 0 where
   pub count : length words ≡ length (slots_of command)
   pub names : Each IsFileName words
-  pub apart : AreApart (operands_of command words)
+  pub apart : AreWordsApart (operands_of command words)
 
 -- the words are this command
 abbrev pub IsCall : Command → List (List ℕ) → Type 0
 IsCall command [] = ⊥
-IsCall command (name ∷ words) = (name ≡ name_of command) × Takes command words
+IsCall command (name ∷ words) = (name ≡ name_of command) × AreOperandsOf command words
 
 -- the words are a command
 abbrev pub IsCommand : List (List ℕ) → Type 0

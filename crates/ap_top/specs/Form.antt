@@ -36,15 +36,15 @@ place_of Code = 4
 place_of Constant = 5
 
 -- a token of the form: exactly these bytes, or these bytes directly followed by a number for this letter
-pub data Token : Type 0 where
-  exactly : List ℕ → Token
-  tagged : List ℕ → Letter → Token
+pub data DueToken : Type 0 where
+  exactly : List ℕ → DueToken
+  tagged : List ℕ → Letter → DueToken
 
-abbrev pub numbered : Letter → Token
+abbrev pub numbered : Letter → DueToken
 numbered letter = tagged [] letter
 
 -- the lines of the form
-abbrev pub first_form : List (List Token)
+abbrev pub first_form : List (List DueToken)
 first_form =
     (exactly (codes "stages") ∷ exactly (codes "2") ∷ [])
     ∷ (exactly (codes "address") ∷ numbered Address ∷ [])
@@ -64,16 +64,16 @@ first_form =
     ∷ []
 
 -- the token is the one due, with this form's numbers
-abbrev pub IsToken : Form → Token → List ℕ → Type 0
-IsToken form (exactly bytes) token = token ≡ bytes
-IsToken form (tagged bytes letter) token = (digits : List ℕ) × (token ≡ bytes ++ digits) × (number_value digits ≡ Some (value_of form letter))
+abbrev pub IsDueToken : Form → DueToken → List ℕ → Type 0
+IsDueToken form (exactly bytes) token = token ≡ bytes
+IsDueToken form (tagged bytes letter) token = (digits : List ℕ) × (token ≡ bytes ++ digits) × (number_value digits ≡ Some (value_of form letter))
 
 -- the line isn't bad, and its tokens are those due
-abbrev pub IsLine : Form → List Token → TextLine → Type 0
-IsLine form dues line = IsTrue line.clean × EachBeside (IsToken form) dues line.tokens
+abbrev pub IsLine : Form → List DueToken → TextLine → Type 0
+IsLine form dues line = IsTrue line.clean × EachBeside (IsDueToken form) dues line.tokens
 
 -- the lines are those due
-abbrev pub AreLines : Form → List (List Token) → List TextLine → Type 0
+abbrev pub AreLines : Form → List (List DueToken) → List TextLine → Type 0
 AreLines form dues lines = EachBeside (IsLine form) dues lines
 
 -- the start, the code and the constant are within their ranges
@@ -136,7 +136,7 @@ pub record IsFirstForm (text : List ℕ) (form : Form) : Type 0 where
   pub ranges : IsForm form
 
 -- the text is a description without fault, of the form with these numbers, whose unit the shelf has
-pub record IsDescription (cards : List Card) (text : List ℕ) (form : Form) : Type 0 where
+pub record IsFormDescription (cards : List Card) (text : List ℕ) (form : Form) : Type 0 where
   pub faultless : IsWellFormed text
   pub first : IsFirstForm text form
   pub unit : HasAddition cards form.width
@@ -147,9 +147,9 @@ HasJudgedFault cards text (judged.Refused refusal) = IsLeastFormFault text refus
 HasJudgedFault cards text (judged.NotBuilt line) = IsWellFormed text × IsNotBuiltAt cards (lines_of text) line
 
 -- why reading a text gave no form
-abbrev pub IsReadFault : List Card → List ℕ → ReadFault → Type 0
-IsReadFault cards text (Refused judged) = HasJudgedFault cards text judged
-IsReadFault cards text NoMemory = Unit {0}
+abbrev pub HasReadFault : List Card → List ℕ → ReadFault → Type 0
+HasReadFault cards text (Refused judged) = HasJudgedFault cards text judged
+HasReadFault cards text NoMemory = Unit {0}
 
 -- why lines gave no form: they aren't its lines from this one on
 abbrev pub IsNotBuilt : List Card → List TextLine → Judged → Type 0

@@ -5,10 +5,10 @@ use Rattle.ap_top.specs.declared.form.Form.{Form}
 use Rattle.ap_top.specs.declared.pattern.Letter.{Letter}
 use Rattle.ap_top.specs.declared.pattern.Piece.{Piece}
 use Rattle.ap_top.specs.declared.pattern.Piece.TheVariants.{Exactly, Number, Tagged}
-use Rattle.ap_top.specs.Form.{Token, exactly, tagged, value_of, place_of, IsForm, HasAddition, unit_line}
+use Rattle.ap_top.specs.Form.{DueToken, exactly, tagged, value_of, place_of, IsForm, HasAddition, unit_line}
 
 -- the token that a piece of the table stands for
-abbrev pub token_of : Piece → Token
+abbrev pub token_of : Piece → DueToken
 token_of (Exactly text) = exactly text.now
 token_of (Number letter) = tagged [] letter
 token_of (Tagged text letter) = tagged text.now letter
@@ -22,7 +22,7 @@ abbrev pub Agrees : List (Option ℕ) → Form → Type 0
 Agrees found form = (letter : Letter) → IfSome (found_at found letter) (λ value. value_of form letter ≡ value)
 
 -- a part of the text was taken: where it holds for some form, what is found afterwards says for which; and otherwise no form that agrees has it
-pub record Takes (old new : List (Option ℕ)) (fact : Form → Type 0) (taken : Bool) : Type 0 where
+pub record TakesPart (old new : List (Option ℕ)) (fact : Form → Type 0) (taken : Bool) : Type 0 where
   pub some : IsTrue taken → (form : Form) → Agrees new form ↔ (Agrees old form × fact form)
   pub none : taken ≡ false → (form : Form) → Agrees old form → fact form → ⊥
 

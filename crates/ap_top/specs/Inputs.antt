@@ -15,7 +15,7 @@ use Rattle.ap_top.specs.declared.refusal.Refusal.{Refusal}
 use Rattle.ap_top.specs.declared.refusal.Refusal.TheVariants as refusal
 use Rattle.ap_top.specs.Calls.{Call}
 use Rattle.ap_top.specs.Commands.{Operand, IsCall, IsCommand, operands_of}
-use Rattle.ap_top.specs.Form.{IsDescription, HasJudgedFault}
+use Rattle.ap_top.specs.Form.{IsFormDescription, HasJudgedFault}
 
 -- an input: what its text holds, and the file's name
 abbrev pub Source : Type 0
@@ -32,7 +32,7 @@ inputs_of command words = inputs_in (operands_of command (drop 1 words))
 
 -- the text of an input has no fault; the texts of the inputs before it are given
 abbrev pub IsFaultless : List Card → List (List ℕ) → Input → List ℕ → Type 0
-IsFaultless cards before input.Description text = (form : Form) × IsDescription cards text form
+IsFaultless cards before input.Description text = (form : Form) × IsFormDescription cards text form
 
 -- the text of an input is refused so
 abbrev pub IsRefused : List Card → List (List ℕ) → Input → List ℕ → Refusal → Type 0
@@ -44,7 +44,7 @@ abbrev pub IsThere : Files → List ℕ → Type 0
 IsThere files name = get files name ≡ Some (content files name)
 
 -- the input is there, and its text has no fault
-pub record IsGood (cards : List Card) (files : Files) (before : List (List ℕ)) (source : Source) : Type 0 where
+pub record IsGoodInput (cards : List Card) (files : Files) (before : List (List ℕ)) (source : Source) : Type 0 where
   pub there : IsThere files source.1
   pub faultless : IsFaultless cards before source.0 (content files source.1)
 
@@ -55,17 +55,17 @@ with_text files before source = before ++ content files source.1 ∷ []
 -- every input is there, and none has a fault
 abbrev pub AreGood : List Card → Files → List (List ℕ) → List Source → Type 0
 AreGood cards files before [] = Unit {0}
-AreGood cards files before (source ∷ sources) = IsGood cards files before source × AreGood cards files (with_text files before source) sources
+AreGood cards files before (source ∷ sources) = IsGoodInput cards files before source × AreGood cards files (with_text files before source) sources
 
 -- some input isn't there, and each before the first such one is there and has no fault
 abbrev pub LacksOne : List Card → Files → List (List ℕ) → List Source → Type 0
 LacksOne cards files before [] = ⊥
-LacksOne cards files before (source ∷ sources) = (get files source.1 ≡ None) ⊎ (IsGood cards files before source × LacksOne cards files (with_text files before source) sources)
+LacksOne cards files before (source ∷ sources) = (get files source.1 ≡ None) ⊎ (IsGoodInput cards files before source × LacksOne cards files (with_text files before source) sources)
 
 -- some input is reached and is refused so: each before it is there and has no fault
 abbrev pub RefusesOne : List Card → Files → List (List ℕ) → List Source → Refusal → Type 0
 RefusesOne cards files before [] refusal = ⊥
-RefusesOne cards files before (source ∷ sources) refusal = (IsThere files source.1 × IsRefused cards before source.0 (content files source.1) refusal) ⊎ (IsGood cards files before source × RefusesOne cards files (with_text files before source) sources refusal)
+RefusesOne cards files before (source ∷ sources) refusal = (IsThere files source.1 × IsRefused cards before source.0 (content files source.1) refusal) ⊎ (IsGoodInput cards files before source × RefusesOne cards files (with_text files before source) sources refusal)
 
 -- an input of these is refused so, where the desk tells; without words there is no other refusal
 abbrev pub IsDueOf : List Card → List Source → Option Files → Refusal → Type 0

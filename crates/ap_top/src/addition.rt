@@ -18,7 +18,8 @@ pub struct Addition {
 /// width or takes more than one cycle, or it has no such operation.
 pub fn find_addition(shelf: &Shelf, width: u32) -> Option<Addition>
     ensures some { let cards = cards_of card shelf.now in
-        IfSome result (λ a. IsSomeAnd (slice_get cards a.place) (λ c. IsAddition cards width (record { card = c; number = a.number }))) }
+        IfSome result (λ a. IsSomeAnd (slice_get cards a.place)
+        (λ c. IsAddition cards width (record { card = c; number = a.number }))) }
     ensures none { let cards = cards_of card shelf.now in
         IfNone result ((operation : Operation) → IsAddition cards width operation → ⊥) }
 {
@@ -33,8 +34,10 @@ pub fn find_addition(shelf: &Shelf, width: u32) -> Option<Addition>
 
 /// The number of the kind's operation of this name.
 fn operation_named(kind: &dyn UnitKind, name: &str) -> Option<u32>
-    ensures some { IfSome result (λ i. slice_get (operation_names (card kind.now)) i ≡ Some name.now) }
-    ensures none { IfNone result ((i : ℕ) → slice_get (operation_names (card kind.now)) i ≡ Some name.now → ⊥) }
+    ensures some { let names = operation_names (card kind.now) in
+        IfSome result (λ i. slice_get names i ≡ Some name.now) }
+    ensures none { let names = operation_names (card kind.now) in
+        IfNone result ((i : ℕ) → slice_get names i ≡ Some name.now → ⊥) }
 {
     for i in 0..kind.op_count() {
         if kind.op_name(i) == name {

@@ -2,7 +2,7 @@ ghost use Rattle.std.specs.Prelude.{◌≡◌, ◌↔◌, ◌+◌, ◌<◌, leng
 ghost use Rattle.std.specs.List.{AllByRecursion as Each, zip};
 ghost use Rattle.std.specs.String.{string_bytes};
 ghost use Rattle.ap_desk.specs.Files.{IsFileName};
-ghost use Rattle.ap_top.specs.Commands.{AreApart, IsCall, IsCommand, IsInput, MayStandWith, Takes, name_of, slots_of};
+ghost use Rattle.ap_top.specs.Commands.{AreWordsApart, IsCall, IsCommand, IsInput, MayStandWith, AreOperandsOf, name_of, slots_of};
 
 /// What a text that a command reads holds.
 #[derive(Clone, Copy, Debug, PartialEq, Eq)]
@@ -72,7 +72,7 @@ impl Command {
 
     /// Whether the words after the name are right: their number, each by itself, and no file that is written named twice.
     pub fn takes(self, words: &[String]) -> bool
-        ensures { IsTrue result ↔ Takes self (map string_bytes words.now) }
+        ensures { IsTrue result ↔ AreOperandsOf self (map string_bytes words.now) }
     {
         let slots = self.slots();
         slots.len() == words.len() && are_file_names(words) && are_apart(slots, words)
@@ -112,7 +112,7 @@ fn are_file_names(words: &[String]) -> bool
 
 fn are_apart(slots: &[Slot], words: &[String]) -> bool
     requires { length slots.now ≡ length words.now }
-    ensures { IsTrue result ↔ AreApart (zip slots.now (map string_bytes words.now)) }
+    ensures { IsTrue result ↔ AreWordsApart (zip slots.now (map string_bytes words.now)) }
 {
     for (i, slot) in slots.iter().enumerate() {
         if !may_stand_before(*slot, words[i].as_str(), &slots[i + 1..], &words[i + 1..]) {

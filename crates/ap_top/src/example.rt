@@ -2,7 +2,7 @@ ghost use Rattle.ap_desc.specs.Descriptions as statements;
 ghost use Rattle.ap_desc.specs.Reading.{ReadsAs};
 ghost use Rattle.ap_top.specs.Additions.{IsAddition};
 ghost use Rattle.ap_top.specs.Example.{ExampleRows, example_cards, example_form, example_operation, example_statements, example_text};
-ghost use Rattle.ap_top.specs.Form.{IsDescription};
+ghost use Rattle.ap_top.specs.Form.{IsFormDescription};
 
 use ap_read::laws::descriptions_are_faultless;
 
@@ -16,7 +16,7 @@ pub fn example_reading()
 /// adds.
 pub fn example_description()
     ensures addition { IsAddition example_cards 8 example_operation }
-    ensures description { IsDescription example_cards example_text example_form }
+    ensures description { IsFormDescription example_cards example_text example_form }
 {
     example_reading();
     descriptions_are_faultless();

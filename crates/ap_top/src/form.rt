@@ -1,7 +1,7 @@
 ghost use Rattle.std.specs.Prelude.{◌≡◌, IfErr, IfOk, map};
 ghost use Rattle.ap_text.specs.Spans.{AreLinesWithin, line_in};
 ghost use Rattle.ap_unit.specs.Shelves.{cards_of};
-ghost use Rattle.ap_top.specs.Form.{AreLines, HasAddition, IsDescription, IsForm, IsNotBuilt, IsReadFault, first_form, reading_of};
+ghost use Rattle.ap_top.specs.Form.{AreLines, HasAddition, IsFormDescription, IsForm, IsNotBuilt, HasReadFault, first_form, reading_of};
 ghost use Rattle.ap_top.specs.Found.{IsServed};
 ghost use Rattle.ap_top.specs.declared.form.ReadFault.TheVariants as fault;
 
@@ -88,8 +88,8 @@ impl From<Judged> for ReadFault {
 /// `NotBuilt`, at the first line whose tokens aren't those due, or at line 0 where the text ends before the fifteen lines.
 /// The line `unit` isn't due where the shelf has no operation `add` of a kind `alu` for its width.
 pub fn judge(alloc: Global, text: &[u8], shelf: &Shelf) -> Result<Form, ReadFault>
-    ensures form { IfOk result (IsDescription (cards_of card shelf.now) text.now) }
-    ensures refused { IfErr result (IsReadFault (cards_of card shelf.now) text.now) }
+    ensures form { IfOk result (IsFormDescription (cards_of card shelf.now) text.now) }
+    ensures refused { IfErr result (HasReadFault (cards_of card shelf.now) text.now) }
 {
     let _ = read(alloc, text)?;
     let list = lines(alloc, text)?;
@@ -100,8 +100,11 @@ pub fn judge(alloc: Global, text: &[u8], shelf: &Shelf) -> Result<Form, ReadFaul
 /// The first form with the numbers of these lines, or where they aren't its lines.
 fn read_form(text: &[u8], lines: &[Line], shelf: &Shelf) -> Result<Form, Judged>
     requires { AreLinesWithin text.now lines.now }
-    ensures form { IfOk result (λ form. AreLines form first_form (map (line_in text.now) lines.now) × IsForm form × HasAddition (cards_of card shelf.now) form.width) }
-    ensures not_built { IfErr result (IsNotBuilt (cards_of card shelf.now) (map (line_in text.now) lines.now)) }
+    ensures form { let given = map (line_in text.now) lines.now in
+        IfOk result (λ form. AreLines form first_form given × IsForm form
+        × HasAddition (cards_of card shelf.now) form.width) }
+    ensures not_built { let given = map (line_in text.now) lines.now in
+        IfErr result (IsNotBuilt (cards_of card shelf.now) given) }
 {
     let due = pattern::first_form();
     let mut numbers = Numbers::new();

@@ -13,6 +13,5 @@ pub mod pattern;
 mod printing;
 pub mod refusal;
 pub mod serve;
-
 #[cfg(test)]
 mod tests;

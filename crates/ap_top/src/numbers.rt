@@ -2,8 +2,8 @@ ghost use Rattle.std.specs.Prelude.{◌≡◌, ◌≢◌, ◌≤◌, ◌<◌, �
 ghost use Rattle.std.specs.Option.{SomeIff};
 ghost use Rattle.ap_text.specs.Numbers.{number_value};
 ghost use Rattle.ap_text.specs.Spans.{IsLineWithin, line_in};
-ghost use Rattle.ap_top.specs.Form.{AreValuesFitting, IsForm, IsLine, IsToken, value_of};
-ghost use Rattle.ap_top.specs.Found.{Agrees, Takes, TakesFitting, found_at, token_of};
+ghost use Rattle.ap_top.specs.Form.{AreValuesFitting, IsForm, IsLine, IsDueToken, value_of};
+ghost use Rattle.ap_top.specs.Found.{Agrees, TakesPart, TakesFitting, found_at, token_of};
 
 use crate::form::Form;
 use crate::pattern::{Letter, Piece};
@@ -27,7 +27,8 @@ impl Numbers {
     /// Takes the tokens of a line, where they are those due and some form has all numbers that were found.
     pub(crate) fn fit_line(&mut self, text: &[u8], line: &Line, pieces: &[Piece]) -> bool
         requires { IsLineWithin text.now line.now }
-        ensures { TakesFitting self.old.found self.new.found (λ form. IsLine form (map token_of pieces.now) (line_in text.now line.now)) result }
+        ensures { TakesFitting self.old.found self.new.found
+            (λ form. IsLine form (map token_of pieces.now) (line_in text.now line.now)) result }
     {
         self.take_line(text, line, pieces) && self.form().is_some()
     }
@@ -35,7 +36,8 @@ impl Numbers {
     /// Takes the tokens of a line, where they are those due.
     fn take_line(&mut self, text: &[u8], line: &Line, pieces: &[Piece]) -> bool
         requires { IsLineWithin text.now line.now }
-        ensures { Takes self.old.found self.new.found (λ form. IsLine form (map token_of pieces.now) (line_in text.now line.now)) result }
+        ensures { TakesPart self.old.found self.new.found
+            (λ form. IsLine form (map token_of pieces.now) (line_in text.now line.now)) result }
     {
         if !line.clean || line.tokens.len() != pieces.len() {
             return false;
@@ -50,7 +52,8 @@ impl Numbers {
 
     /// Takes a token, where it is the one due.
     fn take_token(&mut self, token: &[u8], piece: Piece) -> bool
-        ensures { Takes self.old.found self.new.found (λ form. IsToken form (token_of piece) token.now) result }
+        ensures { TakesPart self.old.found self.new.found
+            (λ form. IsDueToken form (token_of piece) token.now) result }
     {
         match piece {
             Piece::Exactly(text) => token == text.as_bytes(),
@@ -64,7 +67,8 @@ impl Numbers {
 
     /// Takes a number for the letter, where the digits are one and the letter has no other yet.
     fn take_number(&mut self, digits: &[u8], letter: Letter) -> bool
-        ensures { Takes self.old.found self.new.found (λ form. number_value digits.now ≡ Some (value_of form letter)) result }
+        ensures { TakesPart self.old.found self.new.found
+            (λ form. number_value digits.now ≡ Some (value_of form letter)) result }
     {
         match number(digits) {
             Ok(value) => self.take(letter, value),
@@ -74,7 +78,7 @@ impl Numbers {
 
     /// Takes the value for the letter, where it has no other yet.
     fn take(&mut self, letter: Letter, value: u64) -> bool
-        ensures { Takes self.old.found self.new.found (λ form. value_of form letter ≡ value) result }
+        ensures { TakesPart self.old.found self.new.found (λ form. value_of form letter ≡ value) result }
     {
         let place = letter.place();
         match self.found[place] {

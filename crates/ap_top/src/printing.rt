@@ -21,8 +21,8 @@ pub(crate) fn print_line<D: Desk>(
         OnOk result (Goes (Gains stdout_name line) (D.files desk.old) (D.files desk.new)) }
     ensures err { let line = refusal_line refusal in
         OnErr result (Goes (GainsFront stdout_name line) (D.files desk.old) (D.files desk.new)) }
-    ensures cause {
-        IsCaused Trouble.Desk HasFaulted (D.counts desk.old) (D.counts desk.new) result }
+    ensures cause { IsCaused Trouble.Desk HasFaulted
+        (D.counts desk.old) (D.counts desk.new) result }
 {
     let line = match refusal.line(alloc) {
         Ok(line) => line,
@@ -35,8 +35,8 @@ pub(crate) fn print_line<D: Desk>(
 /// Tries once to print the line of a trouble, and gives the trouble's status.
 pub(crate) fn give_up<D: Desk>(trouble: Trouble, desk: &mut D) -> u8
     ensures status { result ≡ trouble_status trouble }
-    ensures line {
-        Goes (GainsFront stdout_name (trouble_line trouble)) (D.files desk.old) (D.files desk.new) }
+    ensures line { let line = trouble_line trouble in
+        Goes (GainsFront stdout_name line) (D.files desk.old) (D.files desk.new) }
     ensures faults { (D.counts desk.old).faults ≤ (D.counts desk.new).faults }
     ensures absent { (D.counts desk.new).absent ≡ (D.counts desk.old).absent }
 {

@@ -444,4 +444,3 @@ fn a_line_before_the_unit_comes_first(rt: HostRuntime) -> Result<(), Fail> {
     );
     Ok(())
 }
-

@@ -40,8 +40,8 @@ fn text_for(alloc: Global, shelf: &Shelf, name: &str, w: u32) -> Result<Option<V
     ensures some { let cards = cards_of card shelf.now in
         IfOk result (λ found. IfSome found (λ text. IsTextFor cards name.now w text.items)) }
     ensures none { let cards = cards_of card shelf.now in
-        IfOk result (λ found. IfNone found
-            ((c : Card) → IsKindNamed cards name.now c → FitsWidth c w → ⊥)) }
+        IfOk result (λ found.
+        IfNone found ((c : Card) → IsKindNamed cards name.now c → FitsWidth c w → ⊥)) }
 {
     let Some(place) = shelf.find(name) else {
         return Ok(None);

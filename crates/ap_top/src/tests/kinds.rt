@@ -25,7 +25,7 @@ fn sum_or_less(out: &mut Builder, sel: Wire, a: Wire, b: Wire) -> Result<Wire, N
     ensures net { IfOk result (λ y. IsNet out.new.nets y × (y.width ≡ a.width)) }
     ensures value { IfOk result (λ y. (read : ℕ → ℕ) → SettlesDraft out.new read
         → SettlesDraft out.old read × (read y.number
-            ≡ sum_or_less_value a.width (read sel.number) (read a.number) (read b.number))) }
+        ≡ sum_or_less_value a.width (read sel.number) (read a.number) (read b.number))) }
     ensures makes { OnOk result (Makes out.old out.new) }
 {
     let less = out.make(a.width, Cell::Two(TwoOp::Sub, a, b))?;

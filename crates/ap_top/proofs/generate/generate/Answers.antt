@@ -1,7 +1,7 @@
 use Rattle.std.proofs.Common.{subst}
 use Rattle.std.proofs.lemmas.Result.{err_from_is_err_and}
 use Rattle.ap_top.specs.Generate.{gen_sources}
-use Rattle.ap_top.specs.Form.{IsDescription, IsReadFault}
+use Rattle.ap_top.specs.Form.{IsFormDescription, HasReadFault}
 use Rattle.ap_unit.specs.Shelves.{cards_of}
 use Rattle.ap_top.proofs.Additions.{addition_of, addition_within, at_some, is_found}
 use Rattle.ap_top.proofs.Causes.{judging_never, kept, reading_gave_up, writing_gave_up}
@@ -18,18 +18,18 @@ pub returns-in_err-form-clause-stopped : goal.returns-in_err-form-clause-stopped
 returns-in_err-form-clause-stopped g c =
     let p = err_from_is_err_and c.from_residual-in_err-form.result c.from_residual-in_err-form.ensures.1 in
     rw (p.1, p.2) (judged_stop _ _ _ c.args.description.now c.args.verilog.now c.in_ok-text.text.items c.in_err-form.field-0.0 c.read_all.ensures.same c.in_ok-text.ensures.whole
-    (subst (λ t. IsReadFault (cards_of (λ x. (goal.UnitKind-dyn g x).card x.1) c.args.shelf.now) t c.in_err-form.field-0.0) c.deref.ensures.value c.in_err-form.ensures.refused))
+    (subst (λ t. HasReadFault (cards_of (λ x. (goal.UnitKind-dyn g x).card x.1) c.args.shelf.now) t c.in_err-form.field-0.0) c.deref.ensures.value c.in_err-form.ensures.refused))
 
 pub returns-in_err-write_all-clause-stopped : goal.returns-in_err-write_all-clause-stopped
 returns-in_err-write_all-clause-stopped g c =
     let p = err_from_is_err_and c.from_residual-in_err-write_all.result c.from_residual-in_err-write_all.ensures.1 in
     rw (p.1, p.2) (writing_stop _ _ _ _ c.args.description.now c.args.verilog.now c.in_ok-text.text.items c.deref-2.result.now c.in_ok-form.form c.read_all.ensures.same c.in_ok-text.ensures.whole
-    (subst (λ t. IsDescription (cards_of (λ x. (goal.UnitKind-dyn g x).card x.1) c.args.shelf.now) t c.in_ok-form.form) c.deref.ensures.value c.in_ok-form.ensures.form) _ (addition_of _ _ _ _ _ (at_some _ _ _ c.unwrap-addition.ensures c.find_addition.ensures.some) c.kind-kind.ensures) (rw c.deref-2.ensures.value c.in_ok-design.ensures) c.in_err-write_all.ensures.err)
+    (subst (λ t. IsFormDescription (cards_of (λ x. (goal.UnitKind-dyn g x).card x.1) c.args.shelf.now) t c.in_ok-form.form) c.deref.ensures.value c.in_ok-form.ensures.form) _ (addition_of _ _ _ _ _ (at_some _ _ _ c.unwrap-addition.ensures c.find_addition.ensures.some) c.kind-kind.ensures) (rw c.deref-2.ensures.value c.in_ok-design.ensures) c.in_err-write_all.ensures.err)
 
 pub returns-clause-done : goal.returns-clause-done
 returns-clause-done g c =
     written _ _ _ _ c.args.description.now c.args.verilog.now c.in_ok-text.text.items c.deref-2.result.now c.in_ok-form.form c.read_all.ensures.same c.in_ok-text.ensures.whole
-    (subst (λ t. IsDescription (cards_of (λ x. (goal.UnitKind-dyn g x).card x.1) c.args.shelf.now) t c.in_ok-form.form) c.deref.ensures.value c.in_ok-form.ensures.form) _ (addition_of _ _ _ _ _ (at_some _ _ _ c.unwrap-addition.ensures c.find_addition.ensures.some) c.kind-kind.ensures) (rw c.deref-2.ensures.value c.in_ok-design.ensures) c.in_ok-write_all.ensures.ok
+    (subst (λ t. IsFormDescription (cards_of (λ x. (goal.UnitKind-dyn g x).card x.1) c.args.shelf.now) t c.in_ok-form.form) c.deref.ensures.value c.in_ok-form.ensures.form) _ (addition_of _ _ _ _ _ (at_some _ _ _ c.unwrap-addition.ensures c.find_addition.ensures.some) c.kind-kind.ensures) (rw c.deref-2.ensures.value c.in_ok-design.ensures) c.in_ok-write_all.ensures.ok
 
 pub returns-in_err-text-clause-cause : goal.returns-in_err-text-clause-cause
 returns-in_err-text-clause-cause g c =
