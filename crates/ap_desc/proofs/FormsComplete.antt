@@ -14,9 +14,9 @@ use Rattle.ap_bits.specs.Beside.{EachBeside}
 use Rattle.ap_desc.specs.Forms as f
 use Rattle.ap_desc.specs.Forms.{WordForm, declared_forms, source_forms, transfer_forms, form_in, word_form_in, declaration_in, read_port_in, compute_in, read_part_in, read_register_in, plain_source_in, source_in, write_register_in, signed_in, write_part_in, plain_micro_in, micro_in, statement_in}
 use Rattle.ap_desc.specs.Reserved.{is_free_name}
-use Rattle.ap_desc.specs.Spelling.{Token, exactly, number, operand as operand_token, part_of, guard_tokens, Piece, Sign, Name, Number, Operand, Operation, Port, Access, Guard, form, word_text, tokens_in, is_spellable, is_small, is_free_word, is_free_guard, IsToken, Spells}
-use Rattle.ap_desc.specs.TokenValues.{Values, operand, values_in, name_in, word_in, cut_on}
-use Rattle.ap_desc.proofs.FreeNames.{unlike, name_to, free_without}
+use Rattle.ap_desc.specs.Spelling.{Token, exactly, number, operand as operand_token, part_of, guard_tokens, Piece, Sign, Name, Number, Operand, Operation, Port, Access, Guard, form, word_text, tokens_in, is_spellable, is_free_word, is_free_guard, IsToken, Spells}
+use Rattle.ap_desc.specs.TokenValues.{Values, operand, word_in, cut_on}
+use Rattle.ap_desc.proofs.FreeNames.{name_to, free_without}
 use Rattle.ap_desc.proofs.PartFits.{Fits, pieces_of, values_to, guard_to, sign_tokens}
 use Rattle.ap_desc.proofs.TokenValues.{word_to, cut_found, cut_whole, port_to}
 use Rattle.ap_desc.proofs.WordForms.{IsFaithful, assigned_lead, stage_lead, row_values, passed}

@@ -1,7 +1,6 @@
 -- Lines that say nothing.
 use Rattle.std.proofs.Common.{◌≡◌, true, false, Some, None, sym, ◌∙◌}
 use Rattle.ap_text.specs.Lines.{TextLine}
-use Rattle.ap_desc.specs.declared.statement.Statement.{Statement}
 use Rattle.ap_desc.specs.Faults.{SaysNothing}
 use Rattle.ap_desc.specs.Forms.{statement_in}
 use Rattle.ap_desc.proofs.FormsComplete.{complete}

@@ -7,7 +7,7 @@ use Rattle.std.specs.List.{list_all}
 use Rattle.std.proofs.lemmas.Bool.{and_parts}
 use Rattle.std.proofs.lemmas.List.Folds.{list_all-append}
 use Rattle.std.proofs.lemmas.Bool.Decides.{nat_tests}
-use Rattle.ap_bits.specs.Names.{is_name, starts_with_letter}
+use Rattle.ap_bits.specs.Names.{starts_with_letter}
 use Rattle.ap_text.specs.Lines.{is_token}
 use Rattle.ap_desc.specs.declared.statement.Word.{Word}
 use Rattle.ap_desc.specs.declared.statement.Word.TheVariants.{Pc, Link, Named}
@@ -15,7 +15,7 @@ use Rattle.ap_desc.specs.declared.statement.FieldNumber.{FieldNumber}
 use Rattle.ap_desc.specs.declared.statement.Statement.{Statement}
 use Rattle.ap_desc.specs.declared.statement.Statement.TheVariants as s
 use Rattle.ap_desc.specs.Reserved.{is_free_name}
-use Rattle.ap_desc.specs.Spelling.{Token, exactly, tagged, operand, part_of, width_token, value_token, guard_tokens, Piece, Sign, Name, Number, Operand, Operation, Port, Access, Widths, Settings, Guard, form, piece_tokens, tokens_in, spelling, is_spellable, is_small, is_free_word, is_free_guard, are_free_fields, has_fields, IsSpellable}
+use Rattle.ap_desc.specs.Spelling.{Token, exactly, tagged, operand, width_token, value_token, guard_tokens, Piece, Sign, Name, Number, Operand, Operation, Port, Access, Widths, Settings, Guard, form, piece_tokens, tokens_in, spelling, is_spellable, is_small, is_free_word, is_free_guard, are_free_fields, has_fields, IsSpellable}
 use Rattle.ap_desc.proofs.Decimals.{decimal_are_digits}
 use Rattle.ap_desc.proofs.FreeNames.{free_is_name, free_letters}
 use Rattle.ap_desc.proofs.PartFits.{both}
