@@ -22,6 +22,7 @@ pub mod Loops
 pub mod Members
 pub mod Named
 pub mod NotSpelled
+pub mod OnePort
 pub mod OwnEdges
 pub mod PartFits
 pub mod Patterns

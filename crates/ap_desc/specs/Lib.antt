@@ -14,13 +14,13 @@ pub mod Instructions
 pub mod Least
 pub mod Limits
 pub mod LineExamples
-pub mod StatementFaults
 pub mod Meaning
 pub mod NameFaults
 pub mod Order
 pub mod Parts
 pub mod Patterns
 pub mod Ports
+pub mod PortsApart
 pub mod Reading
 pub mod Reserved
 pub mod Scope
@@ -29,6 +29,7 @@ pub mod Shown
 pub mod Sound
 pub mod Spelling
 pub mod StageFaults
+pub mod StatementFaults
 pub mod TokenValues
 pub mod WidthFaults
 pub mod Widths

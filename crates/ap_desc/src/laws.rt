@@ -14,6 +14,7 @@ ghost use Rattle.ap_desc.specs.Meaning.{IsLeastFault, IsLeastMeaningFault, IsLea
 ghost use Rattle.ap_desc.specs.Patterns.{Agree, LiesInWord, ShareWord};
 ghost use Rattle.ap_desc.specs.Order.{section};
 ghost use Rattle.ap_desc.specs.Ports.{micros_in};
+ghost use Rattle.ap_desc.specs.PortsApart.{PortsApart};
 ghost use Rattle.ap_desc.specs.Reading.{ReadsAs};
 ghost use Rattle.ap_desc.specs.Scope.{scope_after, scope_with, with_declared};
 ghost use Rattle.ap_desc.specs.Shelf.{IsOfCards};
@@ -223,6 +224,11 @@ pub fn operands_come_from_makers()
 #[tactic(auto, using(crate::proofs::Encoded::encoded_if_clean))]
 pub fn clean_is_encoded()
     ensures { (design : Design) → IsClean design → IsEncoded design }
+{}
+
+/// The ports of a clean design are apart: each is used in one stage, and in an instruction by one line at most.
+pub fn clean_ports_are_apart()
+    ensures { (design : Design) → IsClean design → PortsApart design }
 {}
 
 /// In a sound design the fixed value of an instruction lies in its mask, and the mask in the word. So two patterns that agree where both

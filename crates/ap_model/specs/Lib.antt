@@ -3,10 +3,13 @@ pub mod DesignShape
 pub mod Examples
 pub mod Fire
 pub mod Fitting
+pub mod FlightLocals
 pub mod HeldStages
 pub mod Landings
+pub mod LineForms
 pub mod OneCount
 pub mod PlainViews
+pub mod PortForms
 pub mod Ports
 pub mod Runnable
 pub mod Scenes
@@ -15,4 +18,5 @@ pub mod ShownRows
 pub mod Stalls
 pub mod States
 pub mod Stored
+pub mod UnitUse
 pub mod WritesOf
