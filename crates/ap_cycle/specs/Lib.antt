@@ -1,0 +1,4 @@
+pub mod Circuit
+pub mod KeptStates
+pub mod Signals
+pub mod SmallCircuit
