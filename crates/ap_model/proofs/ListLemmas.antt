@@ -241,7 +241,6 @@ pub each_place : {X : Type 0} (P : X → Type 0) (xs : List X) → ((k : ℕ) (x
 each_place P [] h = tt
 each_place P (x ∷ xs) h = (h 0 x (omega arith) refl, each_place P xs (λ k y low at. h (suc k) y (omega (arith, low)) at))
 
-
 pub contains_each : {X : Type 0} (xs : List X) → Each (Contains xs) xs
 contains_each [] = tt
 contains_each {X = X} (x ∷ xs) = ((0, omega arith, refl), later (Contains xs) (Contains (x ∷ xs)) (λ y c. (suc c.0, omega (arith, c.1), c.2)) xs (contains_each xs))

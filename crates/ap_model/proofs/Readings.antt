@@ -235,4 +235,3 @@ module _ (design : Design) (cards : List Card) (inputs : TraceLine) (storages : 
 pub all_good : (args : List Arg) → Each (λ x. Unit {0}) args
 all_good [] = tt
 all_good (x ∷ args) = (tt, all_good args)
-
