@@ -4,6 +4,7 @@ use Rattle.std.specs.Prelude.{◌==◌, ◌&&◌, nat_lt, not, slice_get, Option
 use Rattle.std.specs.List.{AllByRecursion as Each, list_any, list_all}
 use Rattle.std.specs.Option.{option_map_or}
 use Rattle.std.proofs.lemmas.Bool.{and_from, or_left, or_right, or_parts, false_from_ne_true, not-false, eqb-true, eq-eqb, and_cases, both_ways}
+use Rattle.ap_desc.proofs.Members.{each_maps}
 use Rattle.ap_desc.specs.Clean.{IsClean}
 use Rattle.ap_desc.specs.Designs.{Matches, IsRight, fields_of, is_named_nop}
 use Rattle.ap_desc.specs.Sound.{IsEncoded, AreApart, AreFixedFitting, IsEmptyNop, fits_field}
@@ -22,10 +23,6 @@ none_passes test line_of (x ∷ xs) none = (
   false_from_ne_true (test x) (λ h. none (line_of x) (or_left (test x && (line_of x == line_of x)) (list_any (λ y. test y && (line_of y == line_of x)) xs) (and_from (test x) (line_of x == line_of x) h (eq-eqb (line_of x) (line_of x) refl)))),
   none_passes test line_of xs (λ line h. none line (or_right (test x && (line_of x == line)) (list_any (λ y. test y && (line_of y == line)) xs) h)),
 )
-
-each_maps : {X : Type 0} (P Q : X → Type 0) → ((x : X) → P x → Q x) → (xs : List X) → Each P xs → Each Q xs
-each_maps P Q up [] h = tt
-each_maps P Q up (x ∷ xs) h = (up x h.0, each_maps P Q up xs h.1)
 
 each_both : {X : Type 0} (P Q R : X → Type 0) → ((x : X) → P x → Q x → R x) → (xs : List X) → Each P xs → Each Q xs → Each R xs
 each_both P Q R up [] h k = tt

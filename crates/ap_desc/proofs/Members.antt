@@ -8,6 +8,10 @@ use Rattle.std.proofs.lemmas.Option.{same_Some}
 pub each_contained : {X : Type 0} (P : X → Type 0) (xs : List X) (x : X) → Each P xs → Contains xs x → P x
 each_contained P xs x each there = All-contains P xs x (All-from_recursion P xs each) there
 
+pub each_maps : {X : Type 0} (P Q : X → Type 0) → ((x : X) → P x → Q x) → (xs : List X) → Each P xs → Each Q xs
+each_maps P Q up [] h = tt
+each_maps P Q up (x ∷ xs) h = (up x h.0, each_maps P Q up xs h.1)
+
 pub each_get : {X : Type 0} (P : X → Type 0) (xs : List X) (i : ℕ) (x : X) → Each P xs → slice_get xs i ≡ Some x → P x
 each_get P [] i x each at = absurd cc
 each_get {X} P (y ∷ ys) zero x each at = let same : y ≡ x = same_Some y x at in rw same at each.0

@@ -9,7 +9,7 @@ use Rattle.std.proofs.lemmas.List.{length-map, length-reverse, map-append, rever
 use Rattle.ap_bits.specs.declared.card.Card.{Card}
 use Rattle.ap_desc.proofs.InOrder.{said_by}
 use Rattle.ap_desc.proofs.LocalWidths.{widths_on}
-use Rattle.ap_desc.proofs.Members.{each_get}
+use Rattle.ap_desc.proofs.Members.{each_get, each_maps}
 use Rattle.ap_desc.proofs.Named.{any_reverse, at_place, distinct_reverse, named_there}
 use Rattle.ap_desc.proofs.SoundBlocks.{IsRightBlock, Stands, all_stands}
 use Rattle.ap_desc.proofs.SoundInstrs.{AreLines, all_lines, block_few}
@@ -44,10 +44,6 @@ use Rattle.ap_desc.specs.declared.design.Micro.{Micro}
 use Rattle.ap_desc.specs.declared.design.Arg.{Arg}
 use Rattle.ap_desc.specs.declared.design.Act.{Act}
 use Rattle.ap_desc.specs.declared.design.Act.TheVariants as act
-
-each_maps : {X : Type 0} (P Q : X → Type 0) → ((x : X) → P x → Q x) → (xs : List X) → Each P xs → Each Q xs
-each_maps P Q up [] each = tt
-each_maps P Q up (x ∷ xs) each = (up x each.0, each_maps P Q up xs each.1)
 
 each_reverse : {X : Type 0} (P : X → Type 0) (xs : List X) → Each P xs → Each P (reverse xs)
 each_reverse P [] each = tt
