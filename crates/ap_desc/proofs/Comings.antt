@@ -1,6 +1,6 @@
 -- From which lines an operand comes: the line that makes it, or from where that line's operands come. These lines can be listed.
 use Rattle.std.proofs.Common.{◌≡◌, ℕ, Bool, true, List, [], ◌∷◌, Option, Some, None, inl, inr, refl, sym, subst, ap, eqb-true, eq-eqb}
-use Rattle.std.specs.Prelude.{◌↔◌, ◌==◌, Any, IsTrue, slice_get, option_and_then}
+use Rattle.std.specs.Prelude.{◌↔◌, ◌==◌, IsTrue, slice_get, option_and_then}
 use Rattle.std.specs.List.{AllByRecursion as Each}
 use Rattle.std.proofs.lemmas.Bool.{cases_eq, cases_Bool, both_ways}
 use Rattle.std.proofs.lemmas.Option.{cond_some, same_Some}

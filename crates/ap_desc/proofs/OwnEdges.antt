@@ -1,7 +1,6 @@
 -- The edges that a line makes: a sound design has no other line of its number.
-use Rattle.std.proofs.Common.{◌≡◌, ℕ, zero, suc, ◌<◌, ◌≤◌, Bool, true, List, [], ◌∷◌, ◌++◌, map, Option, Some, None, inl, inr, refl, sym, subst, ap, ◌∙◌, arith, eqb-true, eq-eqb, flat_map}
-use Rattle.std.specs.Prelude.{◌⊎◌, ◌↔◌, ◌==◌, Any, Contains, IsTrue, nat_le, nat_lt}
-use Rattle.std.proofs.lemmas.Bool.{cases_order}
+use Rattle.std.proofs.Common.{◌≡◌, ℕ, ◌<◌, List, [], ◌∷◌, ◌++◌, map, Some, None, inl, inr, refl, sym, subst, ap, ◌∙◌, arith, eqb-true, eq-eqb, flat_map}
+use Rattle.std.specs.Prelude.{◌⊎◌, ◌↔◌, ◌==◌, Any, Contains, nat_le, nat_lt}
 use Rattle.std.proofs.lemmas.Option.{same_Some}
 use Rattle.ap_desc.proofs.Closing.{edges_up_to}
 use Rattle.ap_desc.proofs.Loops.{loop_maps}

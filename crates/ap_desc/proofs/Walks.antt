@@ -1,5 +1,5 @@
 -- Walks along steps to which some more are added, all to one end.
-use Rattle.std.proofs.Common.{◌≡◌, List, [], ◌∷◌, ◌++◌, inl, inr, refl, sym, subst}
+use Rattle.std.proofs.Common.{List, [], ◌∷◌, ◌++◌, inl, inr, refl, subst}
 use Rattle.std.specs.Prelude.{◌⊎◌, ◌↔◌}
 use Rattle.ap_desc.proofs.Listed.{leads_on}
 use Rattle.ap_desc.proofs.Loops.{loop_maps, walk_maps}
