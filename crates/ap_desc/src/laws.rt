@@ -36,19 +36,23 @@ ghost use Rattle.ap_desc.specs.declared.statement.Statement.{Statement};
 
 /// The statement that tokens give is the one that they spell.
 pub fn forms_are_exact()
-    ensures sound { (tokens : List (List ℕ)) (statement : Statement) → statement_in tokens ≡ Some statement → Spells statement tokens }
-    ensures complete { (tokens : List (List ℕ)) (statement : Statement) → Spells statement tokens → statement_in tokens ≡ Some statement }
+    ensures sound { (tokens : List (List ℕ)) (statement : Statement)
+        → statement_in tokens ≡ Some statement → Spells statement tokens }
+    ensures complete { (tokens : List (List ℕ)) (statement : Statement) → Spells statement tokens
+        → statement_in tokens ≡ Some statement }
 {}
 
 /// No two statements have the same tokens.
 #[tactic(auto, using(crate::proofs::FormsComplete::spelled_once))]
 pub fn spelling_is_unique()
-    ensures { (one other : Statement) (tokens : List (List ℕ)) → Spells one tokens → Spells other tokens → one ≡ other }
+    ensures { (one other : Statement) (tokens : List (List ℕ)) → Spells one tokens
+        → Spells other tokens → one ≡ other }
 {}
 
 /// A text reads as one list of statements at most.
 pub fn reading_is_unique()
-    ensures { (text : List ℕ) (one other : List Numbered) → ReadsAs text one → ReadsAs text other → one ≡ other }
+    ensures { (text : List ℕ) (one other : List Numbered) → ReadsAs text one → ReadsAs text other
+        → one ≡ other }
 {}
 
 /// A description, a text and a design have one least fault at most.
@@ -244,6 +248,8 @@ pub fn agreeing_patterns_share_words()
 /// The text that is shown of a description reads as its statements, at the lines 1, 2 and so on, and they are a
 /// description too.
 pub fn shown_is_read()
-    ensures reads { (statements : List Numbered) → IsDescription statements → ReadsAs (shown_text statements) (renumbered 1 statements) }
-    ensures description { (statements : List Numbered) → IsDescription statements → IsDescription (renumbered 1 statements) }
+    ensures reads { (statements : List Numbered) → IsDescription statements
+        → ReadsAs (shown_text statements) (renumbered 1 statements) }
+    ensures description { (statements : List Numbered) → IsDescription statements
+        → IsDescription (renumbered 1 statements) }
 {}

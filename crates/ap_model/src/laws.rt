@@ -38,8 +38,9 @@ pub fn fitting_designs_can_be_run()
 
 /// Each flight has as many locals as the lines of its instruction's earlier stages assign, and none is live in stage 1.
 pub fn flights_have_their_locals()
-    ensures count { (design : Design) (cards : List Card) (image : Image) (trace : Trace) → IsRunnable design cards
-        → (j : ℕ) → HaveLocals design 1 (over design cards image trace j).flights }
+    ensures count { (design : Design) (cards : List Card) (image : Image) (trace : Trace)
+        → IsRunnable design cards → (j : ℕ)
+        → HaveLocals design 1 (over design cards image trace j).flights }
     ensures first { (design : Design) (cards : List Card) → IsRunnable design cards
         → (word i : ℕ) → is_live design word 1 i ≡ false }
 {}
@@ -47,7 +48,8 @@ pub fn flights_have_their_locals()
 /// What a stage does, local by local: those from before stay, and each new one is what its line gives, looking at the locals as they
 /// are after the stage.
 pub fn locals_have_one_line()
-    ensures { (design : Design) (cards : List Card) → FitsCards design cards → FiresByLine design cards }
+    ensures { (design : Design) (cards : List Card) → FitsCards design cards
+        → FiresByLine design cards }
 {}
 
 /// Values of operands that meet the equation of each line of a stage are the machine's: in locals, writes and the transfer.
@@ -58,7 +60,8 @@ pub fn readings_are_the_machine()
 
 /// What a stage does, port by port: each port gets what the one line of the instruction writes that writes through it.
 pub fn ports_have_one_line()
-    ensures { (design : Design) (cards : List Card) → FitsCards design cards → WritesByLine design cards }
+    ensures { (design : Design) (cards : List Card) → FitsCards design cards
+        → WritesByLine design cards }
 {}
 
 /// The transfer of a stage is that of its one transfer line.
@@ -71,15 +74,17 @@ pub fn transfers_have_one_line()
 pub fn writes_go_by_ports()
     ensures stage { (design : Design) (cards : List Card) (writing : Writing) → IsClean design
         → StageWritesByPorts design cards writing }
-    ensures cycle { (design : Design) (writing : Writing) → IsClean design → GoesThroughPorts design writing
-        → GoesByPorts design writing }
+    ensures cycle { (design : Design) (writing : Writing) → IsClean design
+        → GoesThroughPorts design writing → GoesByPorts design writing }
 {}
 
 /// What a unit of several cycles is asked: it needs only the equations of the other lines, and doesn't look at the inputs of the
 /// cycle.
 pub fn units_are_asked_early()
-    ensures lines { (design : Design) (cards : List Card) → FitsCards design cards → AsksAreRight design cards }
-    ensures inputs { (design : Design) (cards : List Card) → FitsCards design cards → StableAsks design cards }
+    ensures lines { (design : Design) (cards : List Card) → FitsCards design cards
+        → AsksAreRight design cards }
+    ensures inputs { (design : Design) (cards : List Card) → FitsCards design cards
+        → StableAsks design cards }
 {}
 
 /// A flight needs its stage for another cycle exactly where one of the units that it asks isn't done, and for as long as each of them
