@@ -1,5 +1,5 @@
 -- The beginning of a unit that makes a step a cycle, and how it goes on as fresh wires are made.
-use Rattle.std.proofs.Common.{◌≡◌, ℕ, suc, zero, ◌+◌, ◌-◌, ◌*◌, ◌^◌, ◌<◌, ◌≤◌, ⊎_elim, List, [], ◌∷◌, ◌++◌, map, Some, refl, sym, ap, subst, ◌∙◌, arith}
+use Rattle.std.proofs.Common.{◌≡◌, ℕ, ◌+◌, ◌-◌, ◌*◌, ◌^◌, ◌<◌, ◌≤◌, ⊎_elim, List, Some, refl, sym, ap, subst, ◌∙◌, arith}
 use Rattle.std.specs.Prelude.{slice_get, codes, ◌==◌, if◌then◌else◌, Bool, true, false}
 use Rattle.std.specs.Int.Count.{count_leading_zeros}
 use Rattle.std.proofs.lemmas.Nat.{leading_length}
@@ -8,7 +8,6 @@ use Rattle.std.proofs.Math.Pow.{pow_mono}
 use Rattle.ap_net.specs.declared.cell.Wire.{Wire}
 use Rattle.ap_net.specs.declared.net.ModuleNet.{ModuleNet}
 use Rattle.ap_net.specs.declared.net.Role.TheVariants as role
-use Rattle.ap_net.specs.Cells.{IsNet}
 use Rattle.ap_net.specs.Wiring.{IsRegister, reset_of}
 use Rattle.ap_net.specs.Draft.{Draft, Makes}
 use Rattle.ap_net.proofs.Laws.{IsNet-Makes, Makes-refl, Makes-trans, net-Adds}
