@@ -1,12 +1,12 @@
 -- A difference that isn't below 0, by highest bits, and the nets of a step of the divider.
-use Rattle.std.proofs.Common.{◌≡◌, ℕ, suc, zero, ◌+◌, ◌-◌, ◌*◌, ◌/◌, ◌%◌, ◌^◌, ◌<◌, ◌≤◌, ⊎_elim, inl, inr, refl, sym, ap, subst, ◌∙◌, arith}
-use Rattle.std.specs.Prelude.{◌==◌, ◌⊎◌, nat_lt, bit_and, bit_or, if◌then◌else◌}
+use Rattle.std.proofs.Common.{◌≡◌, ℕ, suc, ◌+◌, ◌-◌, ◌*◌, ◌/◌, ◌%◌, ◌^◌, ◌<◌, ◌≤◌, ⊎_elim, inl, inr, refl, sym, ap, subst, ◌∙◌, arith}
+use Rattle.std.specs.Prelude.{◌==◌, ◌⊎◌, bit_and, bit_or, if◌then◌else◌}
 use Rattle.std.proofs.Math.Nat.{pow-suc, mod-one}
 use Rattle.std.proofs.lemmas.Nat.{mod-mul-add, div-add-mod', mod_below}
 use Rattle.std.proofs.lemmas.Bool.{cases_lt, lt-ltb, le-ltb}
 use Rattle.ap_unit.specs.Methods.{State}
 use Rattle.ap_unit.proofs.TopBits.{split, top_bit, bit_cases}
-use Rattle.ap_div.specs.Differences.{cover_of, cover_by, difference_at}
+use Rattle.ap_div.specs.Differences.{cover_of}
 use Rattle.ap_div.specs.Quotients.{longer_rest, quotient_step}
 
 by_bits : (P x y d c s t r : ℕ) → x < 2 * P → y < 2 * P → d < 2 * P

@@ -1,17 +1,12 @@
 -- The method of the divider reaches quotient and remainder: after n steps the high number is the rest of the highest n bits of the
 -- dividend, and below what is left of the dividend stands their quotient.
-use Rattle.std.proofs.Common.{◌≡◌, ℕ, suc, zero, ◌+◌, ◌-◌, ◌*◌, ◌/◌, ◌%◌, ◌^◌, ◌<◌, ◌≤◌, ⊎_elim, inl, inr, refl, sym, ap, subst, ◌∙◌, arith, length}
-use Rattle.std.specs.Prelude.{◌==◌, ◌⊎◌, nat_lt, if◌then◌else◌, false}
+use Rattle.std.proofs.Common.{◌≡◌, ℕ, suc, zero, ◌+◌, ◌-◌, ◌*◌, ◌/◌, ◌%◌, ◌^◌, ◌<◌, ◌≤◌, ⊎_elim, refl, sym, ap, subst, ◌∙◌, arith}
+use Rattle.std.specs.Prelude.{◌==◌, if◌then◌else◌, false}
 use Rattle.std.proofs.Math.Nat.{pow-suc, mod-one, div-one}
-use Rattle.std.proofs.lemmas.Nat.{pow_pos, pow-add, mod-pow-add, shr-shr, shr_le, shr_split, div-mul-add, mod-mul-add, mul-add-lt, mod_below}
+use Rattle.std.proofs.lemmas.Nat.{pow_pos, pow-add, mod-pow-add, shr-shr, shr_le, div-mul-add, mod-mul-add, mul-add-lt, mod_below}
 use Rattle.std.proofs.lemmas.Bool.{cases_lt, lt-ltb, le-ltb, ne_eqb}
-use Rattle.ap_bits.specs.declared.card.Card.{Card}
-use Rattle.ap_bits.specs.declared.term.BinOp.TheVariants.{Divu, Remu}
-use Rattle.ap_bits.specs.declared.term.Term.{Bin, A, B}
-use Rattle.ap_bits.specs.Terms.{term_value}
-use Rattle.ap_bits.specs.Operations.{binary_value}
 use Rattle.ap_bits.proofs.TermValues.{term_values}
-use Rattle.ap_unit.specs.Methods.{State, Method, after_steps, shown_of, Reaches}
+use Rattle.ap_unit.specs.Methods.{State, after_steps, Reaches}
 use Rattle.ap_unit.specs.Cards.{operation_value}
 use Rattle.ap_div.specs.Quotients.{div_card, divide, longer_rest, quotient_step}
 

@@ -1,8 +1,8 @@
 -- What a sum carries out of its width, by the highest bits of the operands and of the sum.
-use Rattle.std.proofs.Common.{◌≡◌, ℕ, suc, zero, ◌+◌, ◌-◌, ◌*◌, ◌/◌, ◌%◌, ◌^◌, ◌<◌, ◌≤◌, ⊎_elim, inl, inr, refl, sym, ap, subst, ◌∙◌, arith}
+use Rattle.std.proofs.Common.{◌≡◌, ℕ, suc, ◌+◌, ◌-◌, ◌*◌, ◌/◌, ◌%◌, ◌^◌, ◌<◌, ◌≤◌, ⊎_elim, inl, inr, refl, sym, ap, subst, ◌∙◌, arith}
 use Rattle.std.specs.Prelude.{◌==◌, ◌⊎◌, bit_and, bit_or, if◌then◌else◌}
 use Rattle.std.proofs.Math.Nat.{pow-suc, div-one}
-use Rattle.std.proofs.lemmas.Nat.{div-mul-add, mod-mul-add, div-add-mod'}
+use Rattle.std.proofs.lemmas.Nat.{div-add-mod'}
 use Rattle.ap_unit.specs.Methods.{State}
 use Rattle.ap_unit.proofs.TopBits.{split, top_bit, bit_cases}
 use Rattle.ap_mul.specs.Products.{product_step}

@@ -1,14 +1,8 @@
 -- The method of the multiplier reaches the product: after n steps the high number and what went out below it are the first factor
 -- times the lowest n bits of the second one.
-use Rattle.std.proofs.Common.{◌≡◌, ℕ, suc, zero, ◌+◌, ◌-◌, ◌*◌, ◌/◌, ◌%◌, ◌^◌, ◌<◌, ◌≤◌, ⊎_elim, inl, inr, refl, sym, ap, subst, ◌∙◌, arith, length}
-use Rattle.std.specs.Prelude.{◌==◌, ◌⊎◌, if◌then◌else◌}
+use Rattle.std.proofs.Common.{◌≡◌, ℕ, suc, zero, ◌+◌, ◌-◌, ◌*◌, ◌/◌, ◌%◌, ◌^◌, ◌<◌, ◌≤◌, ⊎_elim, sym, ap, subst, ◌∙◌, arith}
 use Rattle.std.proofs.Math.Nat.{pow-suc, mod-one, div-one, mod-eq_of_lt}
-use Rattle.std.proofs.lemmas.Nat.{pow_pos, pow-add, mod-pow-add, shr-shr, shr_high, mod_low}
-use Rattle.ap_bits.specs.declared.card.Card.{Card}
-use Rattle.ap_bits.specs.declared.term.BinOp.TheVariants.{Mullo, Mulhi}
-use Rattle.ap_bits.specs.declared.term.Term.{Bin, A, B}
-use Rattle.ap_bits.specs.Terms.{term_value}
-use Rattle.ap_bits.specs.Operations.{binary_value}
+use Rattle.std.proofs.lemmas.Nat.{pow-add, mod-pow-add, shr-shr, shr_high, mod_low}
 use Rattle.ap_bits.proofs.TermValues.{term_values}
 use Rattle.ap_unit.specs.Methods.{State, Method, after_steps, shown_of, Reaches}
 use Rattle.ap_bits.specs.Cards.{operation_value}

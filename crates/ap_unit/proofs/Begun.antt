@@ -8,7 +8,6 @@ use Rattle.std.proofs.Math.Pow.{pow_mono}
 use Rattle.ap_net.specs.declared.cell.Wire.{Wire}
 use Rattle.ap_net.specs.declared.net.ModuleNet.{ModuleNet}
 use Rattle.ap_net.specs.declared.net.Role.TheVariants as role
-use Rattle.ap_net.specs.Cells.{IsNet}
 use Rattle.ap_net.specs.Wiring.{IsRegister, reset_of}
 use Rattle.ap_net.specs.Draft.{Draft, Makes}
 use Rattle.ap_net.proofs.Laws.{IsNet-Makes, Makes-refl, Makes-trans, net-Adds}

@@ -1,5 +1,5 @@
 -- What is left in the builder where a unit that makes a step a cycle was ended.
-use Rattle.std.proofs.Common.{◌≡◌, ℕ, List, [], ◌∷◌, ◌++◌, refl, sym, ap, subst, ◌∙◌}
+use Rattle.std.proofs.Common.{◌≡◌, ℕ, List, [], ◌∷◌, ◌++◌, sym, ap, subst, ◌∙◌}
 use Rattle.ap_bits.specs.declared.card.Card.{Card}
 use Rattle.ap_bits.specs.declared.card.Latency.TheVariants.{WidthPlusOne}
 use Rattle.ap_bits.specs.Cards.{select_width}

@@ -1,5 +1,5 @@
 -- The wires of a unit that makes a step a cycle are named n and digits, and its registers q and digits.
-use Rattle.std.proofs.Common.{◌≡◌, ◌≢◌, ℕ, suc, zero, ◌+◌, ◌^◌, ◌<◌, Bool, true, false, List, [], ◌∷◌, ◌++◌, length, map, Some, refl, sym, ap, subst, ◌∙◌, arith}
+use Rattle.std.proofs.Common.{◌≡◌, ◌≢◌, ℕ, suc, ◌+◌, ◌<◌, Bool, true, false, List, [], ◌∷◌, ◌++◌, length, map, Some, refl, sym, ap, ◌∙◌, arith}
 use Rattle.std.specs.Prelude.{slice_get, option_map, codes, IsTrue}
 use Rattle.std.specs.List.{AllByRecursion as Each}
 use Rattle.std.proofs.lemmas.Option.{slice_get_within, slice_get-map}
@@ -16,9 +16,8 @@ use Rattle.ap_net.specs.Modules.{ModuleText, IsModule, nets_of, port_net, wire_n
 use Rattle.ap_net.specs.Finished.{IsFinished}
 use Rattle.ap_net.proofs.Laws.{net-Adds}
 use Rattle.ap_unit.specs.declared.stepper.Pair.{Pair}
-use Rattle.ap_unit.specs.Named.{is_lettered, IsPlainlyNamed, NamesPlainly}
-use Rattle.ap_unit.specs.Pieces.{input_net, output_net}
-use Rattle.ap_unit.specs.Stepping.{register_net, step_nets, with_stepper}
+use Rattle.ap_unit.specs.Named.{is_lettered, NamesPlainly}
+use Rattle.ap_unit.specs.Stepping.{step_nets, with_stepper}
 use Rattle.ap_unit.proofs.Placed.{not_there, same_place}
 use Rattle.ap_unit.proofs.Names.{Each-by_get}
 use Rattle.ap_unit.proofs.PlainNames.{IsNotNumbered-other, get_left, get_right, not_new}

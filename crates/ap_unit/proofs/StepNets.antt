@@ -1,6 +1,6 @@
 -- The nets of a unit that makes a step a cycle, as it begins: which are driven, which are registers, and how they may be ranked.
-use Rattle.std.proofs.Common.{◌≡◌, ◌≢◌, ℕ, suc, zero, ◌+◌, ◌<◌, ◌≤◌, ⊎_elim, List, [], ◌∷◌, ◌++◌, length, get_or, Some, refl, sym, ap, subst, ◌∙◌, arith, inl, inr}
-use Rattle.std.specs.Prelude.{slice_get, codes, nat_lt, ◌⊎◌, if◌then◌else◌, IsTrue}
+use Rattle.std.proofs.Common.{◌≡◌, ℕ, suc, zero, ◌<◌, ◌≤◌, ⊎_elim, List, [], ◌∷◌, ◌++◌, get_or, Some, refl, sym, ap, subst, ◌∙◌, arith}
+use Rattle.std.specs.Prelude.{slice_get, codes, nat_lt, if◌then◌else◌, IsTrue}
 use Rattle.std.specs.List.{AllByRecursion as Each}
 use Rattle.std.proofs.lemmas.Bool.{cases_lt, lt-ltb, le-ltb, ltb-true}
 use Rattle.ap_net.specs.declared.cell.Wire.{Wire}
@@ -10,7 +10,7 @@ use Rattle.ap_net.specs.declared.net.ModuleNet.{ModuleNet}
 use Rattle.ap_net.specs.declared.net.Assign.{Assign}
 use Rattle.ap_net.specs.Cells.{operands}
 use Rattle.ap_net.specs.Wiring.{Ranked, reset_of}
-use Rattle.ap_net.specs.Draft.{Draft, Makes, AreDriven, RegistersBelow, GrowsUp}
+use Rattle.ap_net.specs.Draft.{Draft, AreDriven, RegistersBelow, GrowsUp}
 use Rattle.ap_unit.specs.Pieces.{input_net, output_net}
 use Rattle.ap_unit.specs.Stepping.{register_net, fresh_net, step_nets, with_stepper}
 

@@ -1,5 +1,5 @@
 -- A draft of the beginning, the cells of a step, and what the registers take is a unit that makes a step a cycle.
-use Rattle.std.proofs.Common.{◌≡◌, ◌≢◌, ℕ, suc, zero, ◌+◌, ◌-◌, ◌%◌, ◌^◌, ◌<◌, ◌≤◌, List, [], ◌∷◌, ◌++◌, length, map, Some, true, false, refl, sym, ap, subst, ◌∙◌, arith}
+use Rattle.std.proofs.Common.{◌≡◌, ℕ, suc, zero, ◌+◌, ◌-◌, ◌%◌, ◌^◌, ◌<◌, ◌≤◌, List, [], ◌∷◌, length, map, Some, true, false, refl, sym, ap, subst, ◌∙◌, arith}
 use Rattle.std.specs.Prelude.{slice_get, codes, nat_lt, bit_and, ◌==◌, ◌↔◌, if◌then◌else◌}
 use Rattle.std.specs.List.{AllByRecursion as Each}
 use Rattle.std.proofs.lemmas.Option.{slice_get_within}
@@ -12,9 +12,8 @@ use Rattle.ap_net.specs.declared.net.Role.TheVariants as role
 use Rattle.ap_net.specs.declared.net.ModuleNet.{ModuleNet}
 use Rattle.ap_net.specs.declared.net.Port.{Port}
 use Rattle.ap_net.specs.declared.net.Next.{Next}
-use Rattle.ap_net.specs.Cells.{widths_of}
 use Rattle.ap_net.specs.Wiring.{IsDriven, Unclocked, Ranked, reset_of, Settles}
-use Rattle.ap_net.specs.Draft.{Draft, Adds, Makes, SettlesDraft}
+use Rattle.ap_net.specs.Draft.{Draft, Makes, SettlesDraft}
 use Rattle.ap_net.specs.Modules.{ModuleText, IsModule, nets_of, nets_among, ports_among, reset_at, reset_value, next_placed, instance_placed}
 use Rattle.ap_net.specs.Finished.{IsFinished}
 use Rattle.ap_net.proofs.Laws.{Makes-trans, net-Adds, Settles-before}
@@ -26,10 +25,10 @@ use Rattle.ap_unit.specs.Depends.{DependsOnNone}
 use Rattle.ap_unit.specs.Units.{ComputesInCycles, Behaves, ports_by, input_of, RunsAlone, ShowsAge}
 use Rattle.ap_unit.specs.Built.{IsUnitDraft}
 use Rattle.ap_unit.specs.Pieces.{input_net, output_net}
-use Rattle.ap_unit.specs.Methods.{State, Method, Reaches, shown_of, after_steps}
-use Rattle.ap_unit.specs.Stepping.{register_net, step_nets, with_stepper, step_wires, step_nexts, state_of, state_before, kept_state, next_count, MakesStep}
+use Rattle.ap_unit.specs.Methods.{State, Method, Reaches}
+use Rattle.ap_unit.specs.Stepping.{register_net, step_nets, with_stepper, step_wires, step_nexts, state_of, kept_state, next_count, MakesStep}
 use Rattle.ap_unit.proofs.Placed.{place_is}
-use Rattle.ap_unit.proofs.Counted.{Cycle, left_of, counted, before, busy_shown, value_shown}
+use Rattle.ap_unit.proofs.Counted.{Cycle, left_of, busy_shown, value_shown}
 use Rattle.ap_unit.proofs.StepNets.{stepper_driven, step_register, stepper_below, IsStepRegister, counter, high, low, rank_by, grown_ranked, ranked_closed}
 
 -- ranks by which busy comes before all but go and the counter, and y before all but sel and the state

@@ -111,7 +111,7 @@ pub record HoldsStepper (d : Draft) (unit : Stepper) : Type 0 where
 abbrev pub state_of : (ℕ → ℕ) → Pair → State
 state_of read nets = record { high = read nets.high.number; low = read nets.low.number }
 
--- fresh wires were made, and in every solution of what is there now this holds
+-- every solution of the new draft is one of the old draft, and has this
 abbrev pub Gives : Draft → Draft → ((ℕ → ℕ) → Type 0) → Type 0
 Gives old new Fact = (read : ℕ → ℕ) → SettlesDraft new read → SettlesDraft old read × Fact read
 

@@ -3,7 +3,7 @@
 //! A kind has a card, which says what each of its operations computes and how many cycles it takes. It builds the module of
 //! a unit for each width of the card, and what such a module is stands in `specs/Units.antt`. Who uses a unit knows it by
 //! its card alone. A unit that takes one cycle is built of [`declare_inputs`], pieces of circuit over the inputs, and
-//! [`show_result`].
+//! [`show_result`]; one that makes a step a cycle of [`begin_steps`], pieces of circuit that make the step, and [`end_steps`].
 #![tactic(auto)]
 
 pub mod dependence;

@@ -163,7 +163,8 @@ fn drive_outputs(
     Ok(())
 }
 
-/// Begins a unit of `w` bits in a new builder: its ports, its registers, and what drives its outputs.
+/// Begins a unit of `w` bits in a new builder: its ports, its registers, and what drives its outputs. After an error the
+/// builder is good for nothing but to be dropped.
 pub fn begin_steps(out: &mut Builder, w: u32) -> Result<Stepper, NoMemory>
     requires new { IsBlank out.old }
     requires low { 1 ≤ w }
@@ -192,12 +193,7 @@ pub fn begin_steps(out: &mut Builder, w: u32) -> Result<Stepper, NoMemory>
 
 /// Of two states the first where the bit is 1, else the other.
 #[tactic(auto, using(ap_net::proofs::Laws::laws))]
-fn choose_state(
-    out: &mut Builder,
-    bit: Wire,
-    first: Pair,
-    other: Pair,
-) -> Result<Pair, NoMemory>
+fn choose_state(out: &mut Builder, bit: Wire, first: Pair, other: Pair) -> Result<Pair, NoMemory>
     requires fresh { CanFresh out.old }
     requires bit { IsNet out.old.nets bit }
     requires one_bit { bit.width ≡ 1 }
@@ -216,7 +212,8 @@ fn choose_state(
     Ok(Pair { high, low })
 }
 
-/// The state with which a step begins: the first one while no step was made, else what the registers hold.
+/// The state with which a step begins: the first one while no step was made, else what the registers hold. After an error
+/// the builder is good for nothing but to be dropped.
 #[tactic(auto, using(ap_net::proofs::Laws::laws))]
 pub fn state_before(out: &mut Builder, unit: Stepper, first: Pair) -> Result<Pair, NoMemory>
     requires unit { HoldsStepper out.old unit }
@@ -301,7 +298,8 @@ fn kept_state(out: &mut Builder, unit: Stepper, next: Pair) -> Result<Pair, NoMe
 
 /// Ends a unit whose step makes `next` of the state before it. Where a method reaches the card's values in as many steps as
 /// the unit has bits, and the nets have what its step makes, what the builder holds afterwards is a unit of the card. Its
-/// wires are named `n` and digits, its registers `q` and digits.
+/// wires are named `n` and digits, its registers `q` and digits. After an error the builder is good for nothing but to be
+/// dropped.
 pub fn end_steps(out: &mut Builder, unit: Stepper, next: Pair) -> Result<(), NoMemory>
     requires unit { HoldsStepper out.old unit }
     requires fresh { CanFresh out.old }

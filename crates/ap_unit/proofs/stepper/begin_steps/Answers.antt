@@ -1,5 +1,3 @@
-use Rattle.std.proofs.Common.{ap}
-use Rattle.ap_unit.specs.declared.stepper.Ports.{Ports}
 use Rattle.ap_unit.proofs.Begun.{begun}
 use Rattle.ap_unit.proofs.stepper.begin_steps.Goals as goal
 

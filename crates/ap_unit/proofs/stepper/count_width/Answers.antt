@@ -1,6 +1,3 @@
-use Rattle.std.proofs.Common.{◌≡◌, ◌<◌, ◌-◌, ◌^◌, arith}
-use Rattle.std.specs.Int.Count.{count_leading_zeros}
-use Rattle.std.proofs.lemmas.Nat.{leading_length}
 use Rattle.ap_unit.proofs.Begun.{short_width}
 use Rattle.ap_unit.proofs.stepper.count_width.Goals as goal
 
