@@ -32,10 +32,8 @@ pub fn declare_inputs(out: &mut Builder, select: u32, w: u32) -> Result<Inputs, 
     requires high { w ≤ 64 }
     ensures ok { OnOk result (out.new ≡ with_inputs out.old.name select w) }
     ensures inputs { IfOk result (λ i. i ≡ input_wires select w) }
-    ensures nets {
-        IfOk result (λ i. IsNet out.new.nets i.sel × IsNet out.new.nets i.a
-            × IsNet out.new.nets i.b)
-    }
+    ensures nets { IfOk result (λ i. IsNet out.new.nets i.sel × IsNet out.new.nets i.a
+        × IsNet out.new.nets i.b) }
     ensures fresh { OnOk result (CanFresh out.new) }
 {
     let sel = out.input(b"sel", select)?;
@@ -55,10 +53,8 @@ pub fn show_result(out: &mut Builder, inputs: Inputs, y: Wire) -> Result<(), NoM
     requires high { y.width ≤ 64 }
     ensures name { OnOk result (out.new.name ≡ out.old.name) }
     ensures names { OnOk result (NamesPlainly out.new) }
-    ensures unit {
-        OnOk result ((card : Card) → card.latency ≡ One → inputs.sel.width ≡ select_width card
-            → HasValue out.old inputs y card → IsUnitDraft out.new card inputs.a.width)
-    }
+    ensures unit { OnOk result ((card : Card) → card.latency ≡ One → inputs.sel.width ≡ select_width card
+        → HasValue out.old inputs y card → IsUnitDraft out.new card inputs.a.width) }
 {
     out.show(b"y", y.width, Cell::Copy(y))?;
     Ok(())

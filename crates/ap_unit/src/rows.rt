@@ -11,10 +11,8 @@ ghost use Rattle.ap_unit.specs.Rows.{session_at, hasty_at, chain, less_card, nam
 
 /// The age rises while the unit is asked, and falls to 0 after a cycle with `adv` and after one in which it isn't asked.
 fn ages()
-    ensures session {
-        map (age_at session_at) (0 ∷ 1 ∷ 2 ∷ 3 ∷ 4 ∷ 5 ∷ 6 ∷ 7 ∷ [])
-            ≡ 0 ∷ 0 ∷ 1 ∷ 2 ∷ 3 ∷ 0 ∷ 1 ∷ 0 ∷ []
-    }
+    ensures session { map (age_at session_at) (0 ∷ 1 ∷ 2 ∷ 3 ∷ 4 ∷ 5 ∷ 6 ∷ 7 ∷ [])
+        ≡ 0 ∷ 0 ∷ 1 ∷ 2 ∷ 3 ∷ 0 ∷ 1 ∷ 0 ∷ [] }
 {}
 
 /// For a unit of one operation that takes 4 cycles `adv` may come at age 3 and not at age 1; and one that has an age has to
@@ -34,28 +32,20 @@ fn dependences()
 
 /// The ports in order.
 fn ports()
-    ensures one {
-        ports_by One 1 8 ≡ in_port (codes "sel") 1 ∷ in_port (codes "a") 8 ∷ in_port (codes "b") 8
-            ∷ out_port (codes "y") 8 ∷ []
-    }
-    ensures several {
-        map (λ p. p.name) (ports_by WidthPlusOne 1 8)
-            ≡ codes "sel" ∷ codes "a" ∷ codes "b" ∷ codes "go" ∷ codes "adv" ∷ codes "busy"
-            ∷ codes "y" ∷ []
-    }
+    ensures one { ports_by One 1 8 ≡ in_port (codes "sel") 1 ∷ in_port (codes "a") 8 ∷ in_port (codes "b") 8
+        ∷ out_port (codes "y") 8 ∷ [] }
+    ensures several { map (λ p. p.name) (ports_by WidthPlusOne 1 8)
+        ≡ codes "sel" ∷ codes "a" ∷ codes "b" ∷ codes "go" ∷ codes "adv" ∷ codes "busy"
+        ∷ codes "y" ∷ [] }
 {}
 
 /// The operation of a number, and the first place of a name.
 #[tactic(auto, using(ap_bits::proofs::TermValues::term_values))]
 fn looks_up()
     ensures value { operation_value less_card 8 0 3 5 ≡ 254 }
-    ensures first {
-        place_of (codes "less") (map named_card (codes "more" ∷ codes "less" ∷ codes "less" ∷ []))
-            ≡ Some 1
-    }
-    ensures none {
-        place_of (codes "nand") (map named_card (codes "more" ∷ codes "less" ∷ [])) ≡ None
-    }
+    ensures first { place_of (codes "less") (map named_card (codes "more" ∷ codes "less" ∷ codes "less" ∷ []))
+        ≡ Some 1 }
+    ensures none { place_of (codes "nand") (map named_card (codes "more" ∷ codes "less" ∷ [])) ≡ None }
     ensures earlier { StoodEarlier (codes "less" ∷ codes "more" ∷ codes "less" ∷ []) 2 }
     ensures later { StoodEarlier (codes "less" ∷ codes "more" ∷ codes "less" ∷ []) 1 → ⊥ }
 {}
