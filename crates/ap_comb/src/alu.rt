@@ -55,10 +55,8 @@ fn flag(out: &mut Builder, op: TwoOp, a: Wire, b: Wire) -> Result<Wire, NoMemory
     requires op { FitsTwo op 1 a.width }
     requires operands { AreOfOneWidth out.old.nets a b }
     ensures net { IfOk result (IsOfWidth out.new.nets a.width) }
-    ensures value {
-        IfOk result (λ y. Means out.old out.new (λ read.
-            read y.number ≡ two_value op 1 (read a.number) (read b.number)))
-    }
+    ensures value { IfOk result (λ y. Means out.old out.new (λ read.
+        read y.number ≡ two_value op 1 (read a.number) (read b.number))) }
     ensures makes { OnOk result (Makes out.old out.new) }
 {
     let holds = out.make(1, Cell::Two(op, a, b))?;
@@ -77,11 +75,9 @@ fn by_signs(out: &mut Builder, first: Wire, second: Wire, below: Wire) -> Result
     requires below { IsNet out.old.nets below }
     requires below_bit { below.width ≡ 1 }
     ensures net { IfOk result (IsOfWidth out.new.nets 1) }
-    ensures value {
-        IfOk result (λ y. Means out.old out.new (λ read.
-            read y.number ≡ (if bit_xor (read first.number) (read second.number) == 1
-                then read first.number else read below.number)))
-    }
+    ensures value { IfOk result (λ y. Means out.old out.new (λ read.
+        read y.number ≡ (if bit_xor (read first.number) (read second.number) == 1
+        then read first.number else read below.number))) }
     ensures makes { OnOk result (Makes out.old out.new) }
 {
     let differ = out.make(1, Cell::Two(TwoOp::Xor, first, second))?;
@@ -95,10 +91,8 @@ fn is_less(out: &mut Builder, a: Wire, b: Wire) -> Result<Wire, NoMemory>
     requires fresh { CanFresh out.old }
     requires operands { AreOfOneWidth out.old.nets a b }
     ensures net { IfOk result (IsOfWidth out.new.nets 1) }
-    ensures value {
-        IfOk result (λ y. Means out.old out.new (λ read.
-            read y.number ≡ binary_value two.Lts a.width (read a.number) (read b.number)))
-    }
+    ensures value { IfOk result (λ y. Means out.old out.new (λ read.
+        read y.number ≡ binary_value two.Lts a.width (read a.number) (read b.number))) }
     ensures makes { OnOk result (Makes out.old out.new) }
 {
     let first = bit(out, a, a.width - 1)?;
@@ -114,10 +108,8 @@ fn signed_flag(out: &mut Builder, a: Wire, b: Wire) -> Result<Wire, NoMemory>
     requires fresh { CanFresh out.old }
     requires operands { AreOfOneWidth out.old.nets a b }
     ensures net { IfOk result (IsOfWidth out.new.nets a.width) }
-    ensures value {
-        IfOk result (λ y. Means out.old out.new (λ read.
-            read y.number ≡ binary_value two.Lts a.width (read a.number) (read b.number)))
-    }
+    ensures value { IfOk result (λ y. Means out.old out.new (λ read.
+        read y.number ≡ binary_value two.Lts a.width (read a.number) (read b.number))) }
     ensures makes { OnOk result (Makes out.old out.new) }
 {
     let less = is_less(out, a, b)?;
@@ -132,10 +124,8 @@ fn word(out: &mut Builder, op: TwoOp, a: Wire, b: Wire) -> Result<Wire, NoMemory
     requires op { FitsTwo op a.width a.width }
     requires operands { AreOfOneWidth out.old.nets a b }
     ensures net { IfOk result (IsOfWidth out.new.nets a.width) }
-    ensures value {
-        IfOk result (λ y. Means out.old out.new (λ read.
-            read y.number ≡ two_value op a.width (read a.number) (read b.number)))
-    }
+    ensures value { IfOk result (λ y. Means out.old out.new (λ read.
+        read y.number ≡ two_value op a.width (read a.number) (read b.number))) }
     ensures makes { OnOk result (Makes out.old out.new) }
 {
     let made = out.make(a.width, Cell::Two(op, a, b))?;
@@ -187,10 +177,8 @@ impl Operation {
         requires fresh { CanFresh out.old }
         requires operands { AreOfOneWidth out.old.nets a b }
         ensures net { IfOk result (IsOfWidth out.new.nets a.width) }
-        ensures value {
-            IfOk result (λ y. Means out.old out.new (λ read.
-                read y.number ≡ result_of self a.width (read a.number) (read b.number)))
-        }
+        ensures value { IfOk result (λ y. Means out.old out.new (λ read.
+            read y.number ≡ result_of self a.width (read a.number) (read b.number))) }
         ensures makes { OnOk result (Makes out.old out.new) }
     {
         match self {
@@ -214,10 +202,8 @@ fn results(out: &mut Builder, a: Wire, b: Wire) -> Result<Vec<Wire>, NoMemory>
     requires operands { AreOfOneWidth out.old.nets a b }
     ensures long { IfOk result (λ made. length made.items ≡ 9) }
     ensures nets { IfOk result (λ made. All (IsOfWidth out.new.nets a.width) made.items) }
-    ensures value {
-        IfOk result (λ made. Means out.old out.new (λ read. values_of read made.items
-            ≡ map (λ o. result_of o a.width (read a.number) (read b.number)) OPERATIONS))
-    }
+    ensures value { IfOk result (λ made. Means out.old out.new (λ read. values_of read made.items
+        ≡ map (λ o. result_of o a.width (read a.number) (read b.number)) OPERATIONS)) }
     ensures makes { OnOk result (Makes out.old out.new) }
 {
     let mut made = Vec::new(out.allocator());
@@ -236,12 +222,10 @@ fn chosen(out: &mut Builder, inputs: Inputs) -> Result<Wire, NoMemory>
     requires bits { inputs.sel.width ≡ SELECT }
     requires operands { AreOfOneWidth out.old.nets inputs.a inputs.b }
     ensures net { IfOk result (IsOfWidth out.new.nets inputs.a.width) }
-    ensures value {
-        IfOk result (λ y. Means out.old out.new (λ read.
-            read inputs.sel.number < 9 → read y.number
-                ≡ operation_value alu_card inputs.a.width (read inputs.sel.number)
-                    (read inputs.a.number) (read inputs.b.number)))
-    }
+    ensures value { IfOk result (λ y. Means out.old out.new (λ read.
+        read inputs.sel.number < 9 → read y.number
+        ≡ operation_value alu_card inputs.a.width (read inputs.sel.number)
+        (read inputs.a.number) (read inputs.b.number))) }
     ensures makes { OnOk result (Makes out.old out.new) }
 {
     let Inputs { sel, a, b } = inputs;

@@ -23,10 +23,8 @@ pub fn half_of_sum(out: &mut Builder, a: Wire, b: Wire) -> Result<Wire, NoMemory
     requires operands { AreOfOneWidth out.old.nets a b }
     requires low { 1 < a.width }
     ensures net { IfOk result (λ y. IsNet out.new.nets y × (y.width ≡ a.width)) }
-    ensures value {
-        IfOk result (λ y. Means out.old out.new (λ read.
-            read y.number ≡ binary_value Add a.width (read a.number) (read b.number) / 2 ^ 1))
-    }
+    ensures value { IfOk result (λ y. Means out.old out.new (λ read.
+        read y.number ≡ binary_value Add a.width (read a.number) (read b.number) / 2 ^ 1)) }
     ensures makes { OnOk result (Makes out.old out.new) }
 {
     let sum = out.make(a.width, Cell::Two(TwoOp::Add, a, b))?;
@@ -41,11 +39,9 @@ pub fn average(out: &mut Builder, a: Wire, b: Wire) -> Result<Wire, NoMemory>
     requires fresh { CanFresh out.old }
     requires operands { AreOfOneWidth out.old.nets a b }
     ensures net { IfOk result (λ y. IsNet out.new.nets y × (y.width ≡ a.width)) }
-    ensures value {
-        IfOk result (λ y. Means out.old out.new (λ read.
-            read y.number ≡ binary_value Srl a.width
-                (binary_value Add a.width (read a.number) (read b.number)) 1))
-    }
+    ensures value { IfOk result (λ y. Means out.old out.new (λ read.
+        read y.number ≡ binary_value Srl a.width
+        (binary_value Add a.width (read a.number) (read b.number)) 1)) }
     ensures makes { OnOk result (Makes out.old out.new) }
 {
     if a.width == 1 {

@@ -26,12 +26,10 @@ pub fn counted_bits(out: &mut Builder, leading: Wire, x: Wire) -> Result<Wire, N
     requires one_bit { leading.width ≡ 1 }
     requires x { IsNet out.old.nets x }
     ensures net { IfOk result (λ y. IsNet out.new.nets y × (y.width ≡ x.width)) }
-    ensures value {
-        IfOk result (λ y. Means out.old out.new (λ read.
-            read y.number ≡ (if read leading.number == 1
-                then 2 ^ x.width - 1 - (2 ^ (x.width - zeros_above x.width (read x.number)) - 1)
-                else read x.number)))
-    }
+    ensures value { IfOk result (λ y. Means out.old out.new (λ read.
+        read y.number ≡ (if read leading.number == 1
+        then 2 ^ x.width - 1 - (2 ^ (x.width - zeros_above x.width (read x.number)) - 1)
+        else read x.number))) }
     ensures makes { OnOk result (Makes out.old out.new) }
 {
     let run = running_or(out, x)?;
@@ -48,11 +46,9 @@ pub fn number_of_bits(out: &mut Builder, sel: Wire, a: Wire) -> Result<Wire, NoM
     requires one_bit { sel.width ≡ 1 }
     requires a { IsNet out.old.nets a }
     ensures net { IfOk result (λ y. IsNet out.new.nets y × (y.width ≡ a.width)) }
-    ensures value {
-        IfOk result (λ y. Means out.old out.new (λ read.
-            (op : UnOp) → slice_get count_ops (read sel.number) ≡ Some op
-                → read y.number ≡ unary_value op a.width (read a.number)))
-    }
+    ensures value { IfOk result (λ y. Means out.old out.new (λ read.
+        (op : UnOp) → slice_get count_ops (read sel.number) ≡ Some op
+        → read y.number ≡ unary_value op a.width (read a.number))) }
     ensures makes { OnOk result (Makes out.old out.new) }
 {
     let counted = counted_bits(out, sel, a)?;

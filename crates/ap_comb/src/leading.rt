@@ -17,10 +17,8 @@ fn or_above(out: &mut Builder, x: Wire, places: u32) -> Result<Wire, NoMemory>
     requires some { 1 ≤ places }
     requires within { places < x.width }
     ensures net { IfOk result (λ y. IsNet out.new.nets y × (y.width ≡ x.width)) }
-    ensures value {
-        IfOk result (λ y. Means out.old out.new (λ read.
-            read y.number ≡ bit_or (read x.number) (read x.number / 2 ^ places)))
-    }
+    ensures value { IfOk result (λ y. Means out.old out.new (λ read.
+        read y.number ≡ bit_or (read x.number) (read x.number / 2 ^ places))) }
     ensures makes { OnOk result (Makes out.old out.new) }
 {
     let above = upper_bits(out, x, places)?;
@@ -35,10 +33,8 @@ pub fn running_or(out: &mut Builder, x: Wire) -> Result<Wire, NoMemory>
     requires fresh { CanFresh out.old }
     requires x { IsNet out.old.nets x }
     ensures net { IfOk result (λ y. IsNet out.new.nets y × (y.width ≡ x.width)) }
-    ensures value {
-        IfOk result (λ y. Means out.old out.new (λ read.
-            read y.number ≡ 2 ^ (x.width - zeros_above x.width (read x.number)) - 1))
-    }
+    ensures value { IfOk result (λ y. Means out.old out.new (λ read.
+        read y.number ≡ 2 ^ (x.width - zeros_above x.width (read x.number)) - 1)) }
     ensures makes { OnOk result (Makes out.old out.new) }
 {
     let mut run = x;

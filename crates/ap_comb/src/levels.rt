@@ -28,11 +28,9 @@ fn incoming(out: &mut Builder, x: Wire, turn: Wire, places: u32) -> Result<Wire,
     requires some { 1 ≤ places }
     requires within { places < x.width }
     ensures net { IfOk result (λ y. IsNet out.new.nets y × (y.width ≡ places)) }
-    ensures value {
-        IfOk result (λ y. Means out.old out.new (λ read.
-            read y.number ≡ (if read turn.number == 1
-                then read x.number / 2 ^ (x.width - places) else 0)))
-    }
+    ensures value { IfOk result (λ y. Means out.old out.new (λ read.
+        read y.number ≡ (if read turn.number == 1
+        then read x.number / 2 ^ (x.width - places) else 0))) }
     ensures makes { OnOk result (Makes out.old out.new) }
 {
     let gone = upper_bits(out, x, x.width - places)?;
@@ -51,10 +49,8 @@ fn move_left(out: &mut Builder, x: Wire, turn: Wire, places: u32) -> Result<Wire
     requires some { 1 ≤ places }
     requires within { places < x.width }
     ensures net { IfOk result (λ y. IsNet out.new.nets y × (y.width ≡ x.width)) }
-    ensures value {
-        IfOk result (λ y. Means out.old out.new (λ read.
-            read y.number ≡ moved_left (read turn.number == 1) x.width (read x.number) places))
-    }
+    ensures value { IfOk result (λ y. Means out.old out.new (λ read.
+        read y.number ≡ moved_left (read turn.number == 1) x.width (read x.number) places)) }
     ensures makes { OnOk result (Makes out.old out.new) }
 {
     let below = incoming(out, x, turn, places)?;
@@ -73,10 +69,8 @@ fn move_right(out: &mut Builder, x: Wire, fill: Wire, places: u32) -> Result<Wir
     requires some { 1 ≤ places }
     requires within { places < x.width }
     ensures net { IfOk result (λ y. IsNet out.new.nets y × (y.width ≡ x.width)) }
-    ensures value {
-        IfOk result (λ y. Means out.old out.new (λ read.
-            read y.number ≡ moved_right (read fill.number == 1) x.width (read x.number) places))
-    }
+    ensures value { IfOk result (λ y. Means out.old out.new (λ read.
+        read y.number ≡ moved_right (read fill.number == 1) x.width (read x.number) places)) }
     ensures makes { OnOk result (Makes out.old out.new) }
 {
     let above = repeated(out, fill, places)?;
@@ -94,10 +88,8 @@ fn move_by(out: &mut Builder, way: Way, x: Wire, places: u32) -> Result<Wire, No
     requires some { 1 ≤ places }
     requires within { places < x.width }
     ensures net { IfOk result (λ y. IsNet out.new.nets y × (y.width ≡ x.width)) }
-    ensures value {
-        IfOk result (λ y. Means out.old out.new (λ read.
-            read y.number ≡ moved read way x.width (read x.number) places))
-    }
+    ensures value { IfOk result (λ y. Means out.old out.new (λ read.
+        read y.number ≡ moved read way x.width (read x.number) places)) }
     ensures makes { OnOk result (Makes out.old out.new) }
 {
     match way {
@@ -118,11 +110,9 @@ fn level(out: &mut Builder, way: Way, x: Wire, by: Wire, places: u32) -> Result<
     requires some { 1 ≤ places }
     requires within { places < x.width }
     ensures net { IfOk result (λ y. IsNet out.new.nets y × (y.width ≡ x.width)) }
-    ensures value {
-        IfOk result (λ y. Means out.old out.new (λ read.
-            read y.number ≡ (if read by.number == 1
-                then moved read way x.width (read x.number) places else read x.number)))
-    }
+    ensures value { IfOk result (λ y. Means out.old out.new (λ read.
+        read y.number ≡ (if read by.number == 1
+        then moved read way x.width (read x.number) places else read x.number))) }
     ensures makes { OnOk result (Makes out.old out.new) }
 {
     let away = move_by(out, way, x, places)?;
@@ -147,10 +137,8 @@ pub fn shift_by_levels(
     requires by { IsNet out.old.nets by }
     requires bits { count ≤ by.width }
     ensures net { IfOk result (λ y. IsNet out.new.nets y × (y.width ≡ x.width)) }
-    ensures value {
-        IfOk result (λ y. Means out.old out.new (λ read.
-            read y.number ≡ moved read way x.width (read x.number) (read by.number % 2 ^ count)))
-    }
+    ensures value { IfOk result (λ y. Means out.old out.new (λ read.
+        read y.number ≡ moved read way x.width (read x.number) (read by.number % 2 ^ count))) }
     ensures makes { OnOk result (Makes out.old out.new) }
 {
     let mut shifted = x;

@@ -19,11 +19,9 @@ fn not_both(out: &mut Builder, a: Wire, b: Wire) -> Result<Wire, NoMemory>
     requires fresh { CanFresh out.old }
     requires operands { AreOfOneWidth out.old.nets a b }
     ensures net { IfOk result (λ y. IsNet out.new.nets y × (y.width ≡ a.width)) }
-    ensures value {
-        IfOk result (λ y. Means out.old out.new (λ read.
-            read y.number ≡ binary_value Xor a.width
-                (binary_value And a.width (read a.number) (read b.number)) (2 ^ a.width - 1)))
-    }
+    ensures value { IfOk result (λ y. Means out.old out.new (λ read.
+        read y.number ≡ binary_value Xor a.width
+        (binary_value And a.width (read a.number) (read b.number)) (2 ^ a.width - 1))) }
     ensures makes { OnOk result (Makes out.old out.new) }
 {
     let both = out.make(a.width, Cell::Two(TwoOp::And, a, b))?;

@@ -15,9 +15,7 @@ pub fn lower_bits(out: &mut Builder, x: Wire, count: u32) -> Result<Wire, NoMemo
     requires some { 1 ≤ count }
     requires within { count ≤ x.width }
     ensures net { IfOk result (λ y. IsNet out.new.nets y × (y.width ≡ count)) }
-    ensures value {
-        IfOk result (λ y. Means out.old out.new (λ read. read y.number ≡ read x.number % 2 ^ count))
-    }
+    ensures value { IfOk result (λ y. Means out.old out.new (λ read. read y.number ≡ read x.number % 2 ^ count)) }
     ensures makes { OnOk result (Makes out.old out.new) }
 {
     let cut = out.make(count, Cell::Slice(x, count - 1, 0))?;
@@ -31,9 +29,7 @@ pub fn upper_bits(out: &mut Builder, x: Wire, from: u32) -> Result<Wire, NoMemor
     requires x { IsNet out.old.nets x }
     requires within { from < x.width }
     ensures net { IfOk result (λ y. IsNet out.new.nets y × (y.width ≡ x.width - from)) }
-    ensures value {
-        IfOk result (λ y. Means out.old out.new (λ read. read y.number ≡ read x.number / 2 ^ from))
-    }
+    ensures value { IfOk result (λ y. Means out.old out.new (λ read. read y.number ≡ read x.number / 2 ^ from)) }
     ensures makes { OnOk result (Makes out.old out.new) }
 {
     let cut = out.make(x.width - from, Cell::Slice(x, x.width - 1, from))?;
@@ -47,10 +43,8 @@ pub fn bit(out: &mut Builder, x: Wire, place: u32) -> Result<Wire, NoMemory>
     requires x { IsNet out.old.nets x }
     requires within { place < x.width }
     ensures net { IfOk result (λ y. IsNet out.new.nets y × (y.width ≡ 1)) }
-    ensures value {
-        IfOk result (λ y. Means out.old out.new (λ read.
-            read y.number ≡ read x.number / 2 ^ place % 2))
-    }
+    ensures value { IfOk result (λ y. Means out.old out.new (λ read.
+        read y.number ≡ read x.number / 2 ^ place % 2)) }
     ensures makes { OnOk result (Makes out.old out.new) }
 {
     let cut = out.make(1, Cell::Slice(x, place, place))?;
@@ -66,10 +60,8 @@ pub fn repeated(out: &mut Builder, bit: Wire, count: u32) -> Result<Wire, NoMemo
     requires low { 1 ≤ count }
     requires high { count ≤ 64 }
     ensures net { IfOk result (λ y. IsNet out.new.nets y × (y.width ≡ count)) }
-    ensures value {
-        IfOk result (λ y. Means out.old out.new (λ read.
-            read y.number ≡ (if read bit.number == 1 then 2 ^ count - 1 else 0)))
-    }
+    ensures value { IfOk result (λ y. Means out.old out.new (λ read.
+        read y.number ≡ (if read bit.number == 1 then 2 ^ count - 1 else 0))) }
     ensures makes { OnOk result (Makes out.old out.new) }
 {
     let ones = out.make(count, Cell::Const(mask(count)))?;
@@ -86,9 +78,7 @@ pub fn widened(out: &mut Builder, x: Wire, width: u32) -> Result<Wire, NoMemory>
     requires room { x.width ≤ width }
     requires high { width ≤ 64 }
     ensures net { IfOk result (λ y. IsNet out.new.nets y × (y.width ≡ width)) }
-    ensures value {
-        IfOk result (λ y. Means out.old out.new (λ read. read y.number ≡ read x.number))
-    }
+    ensures value { IfOk result (λ y. Means out.old out.new (λ read. read y.number ≡ read x.number)) }
     ensures makes { OnOk result (Makes out.old out.new) }
 {
     if width == x.width {

@@ -18,10 +18,8 @@ fn one_of(out: &mut Builder, bit: Wire, first: Wire, second: Option<Wire>) -> Re
     requires first { IsNet out.old.nets first }
     requires second { IfSome second (IsOfWidth out.old.nets first.width) }
     ensures net { IfOk result (IsOfWidth out.new.nets first.width) }
-    ensures value {
-        IfOk result (λ y. Means out.old out.new (λ read.
-            read y.number ≡ pair_value read (read bit.number) first second))
-    }
+    ensures value { IfOk result (λ y. Means out.old out.new (λ read.
+        read y.number ≡ pair_value read (read bit.number) first second)) }
     ensures makes { OnOk result (Makes out.old out.new) }
 {
     let Some(second) = second else {
@@ -50,12 +48,10 @@ fn halved(out: &mut Builder, bit: Wire, level: &[Wire], width: u32) -> Result<Ve
     requires high { width ≤ 64 }
     ensures long { IfOk result (λ made. length made.items ≡ (length level.now + 1) / 2) }
     ensures nets { IfOk result (λ made. All (IsOfWidth out.new.nets width) made.items) }
-    ensures value {
-        IfOk result (λ made. Means out.old out.new (λ read.
-            (j : ℕ) → j < length level.now → read bit.number ≡ j % 2
-                → slice_index (values_of read made.items) (j / 2)
-                    ≡ slice_index (values_of read level.now) j))
-    }
+    ensures value { IfOk result (λ made. Means out.old out.new (λ read.
+        (j : ℕ) → j < length level.now → read bit.number ≡ j % 2
+        → slice_index (values_of read made.items) (j / 2)
+        ≡ slice_index (values_of read level.now) j)) }
     ensures makes { OnOk result (Makes out.old out.new) }
 {
     let mut made = Vec::new(out.allocator());
@@ -78,11 +74,9 @@ pub fn select(out: &mut Builder, sel: Wire, choices: &[Wire], width: u32) -> Res
     requires low { 1 ≤ width }
     requires high { width ≤ 64 }
     ensures net { IfOk result (IsOfWidth out.new.nets width) }
-    ensures value {
-        IfOk result (λ y. Means out.old out.new (λ read.
-            read sel.number < length choices.now
-                → read y.number ≡ slice_index (values_of read choices.now) (read sel.number)))
-    }
+    ensures value { IfOk result (λ y. Means out.old out.new (λ read.
+        read sel.number < length choices.now
+        → read y.number ≡ slice_index (values_of read choices.now) (read sel.number))) }
     ensures makes { OnOk result (Makes out.old out.new) }
 {
     let mut level = Vec::from_slice(out.allocator(), choices)?;

@@ -28,10 +28,8 @@ pub fn is_within(out: &mut Builder, shift: Wire, count: u32) -> Result<Wire, NoM
     requires shift { IsNet out.old.nets shift }
     requires bits { count < shift.width }
     ensures net { IfOk result (λ y. IsNet out.new.nets y × (y.width ≡ 1)) }
-    ensures value {
-        IfOk result (λ y. Means out.old out.new (λ read.
-            read y.number ≡ (if nat_lt (read shift.number) (2 ^ count) then 1 else 0)))
-    }
+    ensures value { IfOk result (λ y. Means out.old out.new (λ read.
+        read y.number ≡ (if nat_lt (read shift.number) (2 ^ count) then 1 else 0))) }
     ensures makes { OnOk result (Makes out.old out.new) }
 {
     let beyond = upper_bits(out, shift, count)?;
@@ -48,10 +46,8 @@ pub fn fill_bit(out: &mut Builder, signed: Wire, a: Wire) -> Result<Wire, NoMemo
     requires one_bit { signed.width ≡ 1 }
     requires a { IsNet out.old.nets a }
     ensures net { IfOk result (λ y. IsNet out.new.nets y × (y.width ≡ 1)) }
-    ensures value {
-        IfOk result (λ y. Means out.old out.new (λ read.
-            read y.number ≡ bit_and (read signed.number) (read a.number / 2 ^ (a.width - 1) % 2)))
-    }
+    ensures value { IfOk result (λ y. Means out.old out.new (λ read.
+        read y.number ≡ bit_and (read signed.number) (read a.number / 2 ^ (a.width - 1) % 2))) }
     ensures makes { OnOk result (Makes out.old out.new) }
 {
     let sign = bit(out, a, a.width - 1)?;
@@ -81,12 +77,10 @@ pub fn make_control(out: &mut Builder, sel: Wire, a: Wire) -> Result<Control, No
     ensures low { IfOk result (λ c. IsNet out.new.nets c.low × (c.low.width ≡ 1)) }
     ensures high { IfOk result (λ c. IsNet out.new.nets c.high × (c.high.width ≡ 1)) }
     ensures fill { IfOk result (λ c. IsNet out.new.nets c.fill × (c.fill.width ≡ 1)) }
-    ensures value {
-        IfOk result (λ c. Means out.old out.new (λ read.
-            (read c.low.number ≡ read sel.number / 2 ^ 0 % 2) × (read c.high.number
-            ≡ read sel.number / 2 ^ 1 % 2) × (read c.fill.number
-            ≡ bit_and (read sel.number / 2 ^ 1 % 2) (read a.number / 2 ^ (a.width - 1) % 2))))
-    }
+    ensures value { IfOk result (λ c. Means out.old out.new (λ read.
+        (read c.low.number ≡ read sel.number / 2 ^ 0 % 2) × (read c.high.number
+        ≡ read sel.number / 2 ^ 1 % 2) × (read c.fill.number
+        ≡ bit_and (read sel.number / 2 ^ 1 % 2) (read a.number / 2 ^ (a.width - 1) % 2)))) }
     ensures makes { OnOk result (Makes out.old out.new) }
 {
     let low = bit(out, sel, 0)?;
@@ -113,14 +107,12 @@ pub fn shift_near(
     requires width { a.width ≡ 2 ^ count }
     requires bits { count ≤ b.width }
     ensures net { IfOk result (λ y. IsNet out.new.nets y × (y.width ≡ a.width)) }
-    ensures value {
-        IfOk result (λ y. Means out.old out.new (λ read.
-            read y.number ≡ (if bit_xor (read control.low.number) (read control.high.number) == 1
-                then moved_right (read control.fill.number == 1) a.width (read a.number)
-                    (read b.number % 2 ^ count)
-                else moved_left (read control.high.number == 1) a.width (read a.number)
-                    (read b.number % 2 ^ count))))
-    }
+    ensures value { IfOk result (λ y. Means out.old out.new (λ read.
+        read y.number ≡ (if bit_xor (read control.low.number) (read control.high.number) == 1
+        then moved_right (read control.fill.number == 1) a.width (read a.number)
+        (read b.number % 2 ^ count)
+        else moved_left (read control.high.number == 1) a.width (read a.number)
+        (read b.number % 2 ^ count)))) }
     ensures makes { OnOk result (Makes out.old out.new) }
 {
     let left = shift_by_levels(out, Way::Left(control.high), a, b, count)?;
@@ -147,13 +139,11 @@ pub fn limited(
     requires b { IsNet out.old.nets b }
     requires bits { count < b.width }
     ensures net { IfOk result (λ y. IsNet out.new.nets y × (y.width ≡ near.width)) }
-    ensures value {
-        IfOk result (λ y. Means out.old out.new (λ read.
-            read y.number ≡ (if bit_or (if nat_lt (read b.number) (2 ^ count) then 1 else 0)
-                    (bit_and (read control.low.number) (read control.high.number)) == 1
-                then read near.number
-                else (if read control.fill.number == 1 then 2 ^ near.width - 1 else 0))))
-    }
+    ensures value { IfOk result (λ y. Means out.old out.new (λ read.
+        read y.number ≡ (if bit_or (if nat_lt (read b.number) (2 ^ count) then 1 else 0)
+        (bit_and (read control.low.number) (read control.high.number)) == 1
+        then read near.number
+        else (if read control.fill.number == 1 then 2 ^ near.width - 1 else 0)))) }
     ensures makes { OnOk result (Makes out.old out.new) }
 {
     let within = is_within(out, b, count)?;
@@ -173,11 +163,9 @@ pub fn shifted(out: &mut Builder, sel: Wire, a: Wire, b: Wire, count: u32) -> Re
     requires operands { AreOfOneWidth out.old.nets a b }
     requires width { a.width ≡ 2 ^ count }
     ensures net { IfOk result (λ y. IsNet out.new.nets y × (y.width ≡ a.width)) }
-    ensures value {
-        IfOk result (λ y. Means out.old out.new (λ read.
-            (op : BinOp) → slice_get shift_ops (read sel.number) ≡ Some op
-                → read y.number ≡ binary_value op a.width (read a.number) (read b.number)))
-    }
+    ensures value { IfOk result (λ y. Means out.old out.new (λ read.
+        (op : BinOp) → slice_get shift_ops (read sel.number) ≡ Some op
+        → read y.number ≡ binary_value op a.width (read a.number) (read b.number))) }
     ensures makes { OnOk result (Makes out.old out.new) }
 {
     let control = make_control(out, sel, a)?;

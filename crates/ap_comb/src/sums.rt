@@ -18,10 +18,8 @@ fn wide_bit(out: &mut Builder, x: Wire, place: u32, width: u32) -> Result<Wire, 
     requires some { 1 ≤ width }
     requires high { width ≤ 64 }
     ensures net { IfOk result (λ y. IsNet out.new.nets y × (y.width ≡ width)) }
-    ensures value {
-        IfOk result (λ y. Means out.old out.new (λ read.
-            read y.number ≡ ones_among 1 (read x.number / 2 ^ place)))
-    }
+    ensures value { IfOk result (λ y. Means out.old out.new (λ read.
+        read y.number ≡ ones_among 1 (read x.number / 2 ^ place))) }
     ensures makes { OnOk result (Makes out.old out.new) }
 {
     let narrow = bit(out, x, place)?;
@@ -40,10 +38,8 @@ fn ones_from(out: &mut Builder, x: Wire, low: u32, count: u32, width: u32) -> Re
     requires width { 1 ≤ width }
     requires high { width ≤ 64 }
     ensures net { IfOk result (λ y. IsNet out.new.nets y × (y.width ≡ width)) }
-    ensures value {
-        IfOk result (λ y. Means out.old out.new (λ read.
-            read y.number ≡ ones_among count (read x.number / 2 ^ low)))
-    }
+    ensures value { IfOk result (λ y. Means out.old out.new (λ read.
+        read y.number ≡ ones_among count (read x.number / 2 ^ low))) }
     ensures makes { OnOk result (Makes out.old out.new) }
 {
     if count == 1 {
@@ -62,10 +58,8 @@ pub fn ones(out: &mut Builder, x: Wire) -> Result<Wire, NoMemory>
     requires fresh { CanFresh out.old }
     requires x { IsNet out.old.nets x }
     ensures net { IfOk result (λ y. IsNet out.new.nets y × (y.width ≡ x.width)) }
-    ensures value {
-        IfOk result (λ y. Means out.old out.new (λ read.
-            read y.number ≡ ones_among x.width (read x.number)))
-    }
+    ensures value { IfOk result (λ y. Means out.old out.new (λ read.
+        read y.number ≡ ones_among x.width (read x.number))) }
     ensures makes { OnOk result (Makes out.old out.new) }
 {
     let counted = ones_from(out, x, 0, x.width, x.width.min(7))?;

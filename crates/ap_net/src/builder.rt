@@ -98,10 +98,8 @@ fn connected(
 ) -> Result<Vec<Wire>, NoMemory>
     requires inputs { length inputs.now ≡ length (input_widths ports.now) }
     requires outputs { length outputs.now ≡ length (output_widths ports.now) }
-    ensures {
-        IfOk result (λ nets.
-            nets.items ≡ merged (map (λ p. p.output) ports.now) inputs.now outputs.now)
-    }
+    ensures { IfOk result (λ nets.
+        nets.items ≡ merged (map (λ p. p.output) ports.now) inputs.now outputs.now) }
 {
     let mut nets = Vec::new(alloc);
     let mut used = 0;
@@ -140,10 +138,8 @@ impl Builder {
         ensures wire { IfOk result (λ w. w ≡ next_wire self.old width) }
         ensures adds { OnOk result (Adds self.old self.new) }
         ensures named { OnOk result (KeepsFresh name self.old self.new) }
-        ensures numbered {
-            OnOk result (name ≡ numbered (wire_count self.old.nets) → role ≡ Role.Plain
-                → CanFresh self.old → CanFresh self.new)
-        }
+        ensures numbered { OnOk result (name ≡ numbered (wire_count self.old.nets) → role ≡ Role.Plain
+            → CanFresh self.old → CanFresh self.new) }
         ensures err { OnErr result (self.new ≡ self.old) }
     {
         let wires = self.wires + wires_in(role);
@@ -237,9 +233,7 @@ impl Builder {
         requires low { 1 ≤ width }
         requires high { width ≤ 64 }
         requires reset { reset < 2 ^ width }
-        ensures ok {
-            OnOk result (self.new ≡ with_net self.old name.now width (Role.Register reset))
-        }
+        ensures ok { OnOk result (self.new ≡ with_net self.old name.now width (Role.Register reset)) }
         ensures wire { IfOk result (λ w. w ≡ next_wire self.old width) }
         ensures adds { OnOk result (Adds self.old self.new) }
         ensures fresh { OnOk result (KeepsFresh name.now self.old self.new) }
@@ -282,17 +276,11 @@ impl Builder {
         requires widths { map (λ w. w.width) nets.now ≡ map (λ p. p.width) whole.now.ports }
         requires nets { Each (IsNet self.old.nets) nets.now }
         requires free { Each (IsFree self.old.nets) (driven_among (outputs whole.now) nets.now) }
-        requires undriven {
-            Each (Undriven self.old.assigns) (driven_among (outputs whole.now) nets.now)
-        }
-        requires unjoined {
-            Each (Unjoined self.old.instances) (driven_among (outputs whole.now) nets.now)
-        }
+        requires undriven { Each (Undriven self.old.assigns) (driven_among (outputs whole.now) nets.now) }
+        requires unjoined { Each (Unjoined self.old.instances) (driven_among (outputs whole.now) nets.now) }
         requires apart { NoneTwice (driven_among (outputs whole.now) nets.now) }
-        ensures ok {
-            OnOk result (self.new ≡ with_instance self.old
-                (instance_of name.now whole.now nets.now))
-        }
+        ensures ok { OnOk result (self.new ≡ with_instance self.old
+            (instance_of name.now whole.now nets.now)) }
         ensures err { OnErr result (self.new ≡ self.old) }
     {
         let name = NetName::new(self.alloc, name)?;
@@ -328,9 +316,7 @@ impl Builder {
         requires fresh { CanFresh self.old }
         requires widths { Each (λ (p : Port). (1 ≤ p.width) × (p.width ≤ 64)) ports.now }
         ensures ok { OnOk result (self.new ≡ with_outputs self.old ports.now) }
-        ensures outputs {
-            IfOk result (λ outs. outs ≡ wires_from (length self.old.nets) (output_widths ports.now))
-        }
+        ensures outputs { IfOk result (λ outs. outs ≡ wires_from (length self.old.nets) (output_widths ports.now)) }
         ensures fresh { OnOk result (CanFresh self.new) }
         ensures names { OnOk result (KeepsNew self.old self.new) }
     {
@@ -362,24 +348,16 @@ impl Builder {
         requires widths { map (λ w. w.width) inputs.now ≡ input_widths whole.now.ports }
         requires nets { Each (IsNet self.old.nets) inputs.now }
         ensures ok { OnOk result (self.new ≡ with_placed self.old name.now whole.now inputs.now) }
-        ensures outputs {
-            IfOk result (λ outs. outs ≡ output_wires (length self.old.nets) whole.now)
-        }
+        ensures outputs { IfOk result (λ outs. outs ≡ output_wires (length self.old.nets) whole.now) }
         ensures nets { IfOk result (λ outs. Each (IsNet self.new.nets) outs) }
-        ensures value {
-            OnOk result ((modules : List ModuleText) (read : ℕ → ℕ) (parts : ℕ → ℕ → ℕ)
-                → SettlesOpen modules self.new read parts → SettlesOpen modules self.old read parts
-                × (module_named modules whole.now.name ≡ Some whole.now
-                    → SolvesPart whole.now (instance_in self.old name.now whole.now inputs.now) read
-                        (parts (length self.old.instances))))
-        }
-        ensures places {
-            OnOk result (Places (instance_in self.old name.now whole.now inputs.now ∷ [])
-                self.old self.new)
-        }
-        ensures connects {
-            OnOk result (Connects whole.now (instance_in self.old name.now whole.now inputs.now))
-        }
+        ensures value { OnOk result ((modules : List ModuleText) (read : ℕ → ℕ) (parts : ℕ → ℕ → ℕ)
+            → SettlesOpen modules self.new read parts → SettlesOpen modules self.old read parts
+            × (module_named modules whole.now.name ≡ Some whole.now
+            → SolvesPart whole.now (instance_in self.old name.now whole.now inputs.now) read
+            (parts (length self.old.instances)))) }
+        ensures places { OnOk result (Places (instance_in self.old name.now whole.now inputs.now ∷ [])
+            self.old self.new) }
+        ensures connects { OnOk result (Connects whole.now (instance_in self.old name.now whole.now inputs.now)) }
     {
         whole.rules();
         let alloc = self.alloc;
@@ -396,10 +374,8 @@ impl Builder {
         requires high { width ≤ 64 }
         requires fits { CellFits self.old.nets width cell }
         ensures net { IfOk result (λ w. IsNet self.new.nets w × (w.width ≡ width)) }
-        ensures value {
-            IfOk result (λ w. Means self.old self.new (λ read.
-                read w.number ≡ cell_value read width cell))
-        }
+        ensures value { IfOk result (λ w. Means self.old self.new (λ read.
+            read w.number ≡ cell_value read width cell)) }
         ensures makes { OnOk result (Makes self.old self.new) }
     {
         let _ = &self.nets;
@@ -416,17 +392,11 @@ impl Builder {
         requires high { width ≤ 64 }
         requires fits { CellFits self.old.nets width cell }
         ensures net { IfOk result (λ w. IsNet self.new.nets w × (w.width ≡ width)) }
-        ensures there {
-            IfOk result (λ w. slice_get self.new.nets w.number
-                ≡ Some (record { name = name.now; width = width; role = Role.Output }))
-        }
-        ensures nets {
-            OnOk result (self.new.nets ≡ (with_net self.old name.now width Role.Output).nets)
-        }
-        ensures value {
-            IfOk result (λ w. Means self.old self.new (λ read.
-                read w.number ≡ cell_value read width cell))
-        }
+        ensures there { IfOk result (λ w. slice_get self.new.nets w.number
+            ≡ Some (record { name = name.now; width = width; role = Role.Output })) }
+        ensures nets { OnOk result (self.new.nets ≡ (with_net self.old name.now width Role.Output).nets) }
+        ensures value { IfOk result (λ w. Means self.old self.new (λ read.
+            read w.number ≡ cell_value read width cell)) }
         ensures adds { OnOk result (Adds self.old self.new) }
         ensures closes { OnOk result (Closes self.old self.new) }
         ensures instances { OnOk result (self.new.instances ≡ self.old.instances) }

@@ -124,13 +124,11 @@ impl Free {
     /// The free numbers after a net of this role.
     fn after(self, role: Role) -> Free
         requires { number_by role self.port self.wire self.register + 1 < 2 ^ 64 }
-        ensures {
-            result ≡ record {
-                port = one_more_if (has_port_role role) self.port;
-                wire = one_more_if (is_plain role) self.wire;
-                register = one_more_if (has_register_role role) self.register
-            }
-        }
+        ensures { result ≡ record {
+          port = one_more_if (has_port_role role) self.port;
+          wire = one_more_if (is_plain role) self.wire;
+          register = one_more_if (has_register_role role) self.register;
+        } }
     {
         let Free {
             port,
@@ -167,10 +165,8 @@ fn places_of(
     requires ports { ports ≡ port_count nets.now }
     requires wires { wires ≡ wire_count nets.now }
     ensures length { IfOk result (λ places. length places.items ≡ length nets.now) }
-    ensures each {
-        IfOk result (λ places. (n : ℕ) (net : ModuleNet) → slice_get nets.now n ≡ Some net
-            → slice_index places.items n ≡ place_by net.role nets.now n)
-    }
+    ensures each { IfOk result (λ places. (n : ℕ) (net : ModuleNet) → slice_get nets.now n ≡ Some net
+        → slice_index places.items n ≡ place_by net.role nets.now n) }
 {
     let mut places = Vec::new(alloc);
     let mut free = Free {
@@ -224,13 +220,9 @@ fn assigns_under(
     places: &[usize],
 ) -> Result<Vec<Assign>, NoMemory>
     requires results { Each (λ (a : Assign). a.to.number < length places.now) assigns.now }
-    requires operands {
-        Each (λ (a : Assign).
-            Each (λ (o : Wire). o.number < length places.now) (operands a.cell)) assigns.now
-    }
-    ensures {
-        IfOk result (λ made. made.items ≡ map (assign_placed (slice_index places.now)) assigns.now)
-    }
+    requires operands { Each (λ (a : Assign).
+        Each (λ (o : Wire). o.number < length places.now) (operands a.cell)) assigns.now }
+    ensures { IfOk result (λ made. made.items ≡ map (assign_placed (slice_index places.now)) assigns.now) }
 {
     let mut made = Vec::new(alloc);
     for assign in assigns {
@@ -245,9 +237,7 @@ fn assigns_under(
 fn nexts_under(alloc: Global, nexts: &[Next], places: &[usize]) -> Result<Vec<Next>, NoMemory>
     requires registers { Each (λ (x : Next). x.register.number < length places.now) nexts.now }
     requires froms { Each (λ (x : Next). x.from.number < length places.now) nexts.now }
-    ensures {
-        IfOk result (λ made. made.items ≡ map (next_placed (slice_index places.now)) nexts.now)
-    }
+    ensures { IfOk result (λ made. made.items ≡ map (next_placed (slice_index places.now)) nexts.now) }
 {
     let mut made = Vec::new(alloc);
     for next in nexts {
@@ -308,14 +298,10 @@ fn instances_under(
     instances: &[Instance],
     places: &[usize],
 ) -> Result<Vec<Instance>, NoMemory>
-    requires {
-        Each (λ (i : Instance).
-            Each (λ (w : Wire). w.number < length places.now) i.nets) instances.now
-    }
-    ensures {
-        IfOk result (λ made.
-            made.items ≡ map (instance_placed (slice_index places.now)) instances.now)
-    }
+    requires { Each (λ (i : Instance).
+        Each (λ (w : Wire). w.number < length places.now) i.nets) instances.now }
+    ensures { IfOk result (λ made.
+        made.items ≡ map (instance_placed (slice_index places.now)) instances.now) }
 {
     let mut made = Vec::new(alloc);
     for instance in instances {
@@ -333,14 +319,10 @@ pub(crate) fn finished(
     nexts: &[Next],
     instances: &[Instance],
 ) -> Result<Module, NoMemory>
-    requires draft {
-        IsDraft (draft_of name nets.now assigns.now nexts.now instances.now) (wire_count nets.now)
-    }
+    requires draft { IsDraft (draft_of name nets.now assigns.now nexts.now instances.now) (wire_count nets.now) }
     requires driven { IsDriven nets.now assigns.now nexts.now instances.now }
     requires port { 0 < length (ports_among nets.now) }
-    ensures {
-        IfOk result (IsFinished (draft_of name nets.now assigns.now nexts.now instances.now))
-    }
+    ensures { IfOk result (IsFinished (draft_of name nets.now assigns.now nexts.now instances.now)) }
 {
     let ports = ports_of(alloc, nets)?;
     let wires = wires_of(alloc, nets)?;

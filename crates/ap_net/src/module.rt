@@ -73,14 +73,10 @@ impl Module {
         nexts: Vec<Next>,
         instances: Vec<Instance>,
     ) -> Module
-        requires {
-            IsModule (module_of name ports.items wires.items regs.items assigns.items nexts.items
-                instances.items)
-        }
-        ensures {
-            result ≡ module_of name ports.items wires.items regs.items assigns.items nexts.items
-                instances.items
-        }
+        requires { IsModule (module_of name ports.items wires.items regs.items assigns.items nexts.items
+            instances.items) }
+        ensures { result ≡ module_of name ports.items wires.items regs.items assigns.items nexts.items
+            instances.items }
     {
         Module {
             name,

@@ -194,9 +194,7 @@ fn writes_each_cell(rt: HostRuntime) -> Result<(), Fail> {
 /// A netlist with an instance, opened: the instance's nets follow those of `top`, and its ports are joined to their nets.
 fn opens_an_instance()
     ensures opened { opened (inverter ∷ over_inverter ∷ []) ≡ inverter_opened }
-    ensures input {
-        value_in_part 1 inverter_opened.nets (5 ∷ 250 ∷ 250 ∷ 5 ∷ 250 ∷ 2 ∷ []) (codes "a") ≡ 5
-    }
+    ensures input { value_in_part 1 inverter_opened.nets (5 ∷ 250 ∷ 250 ∷ 5 ∷ 250 ∷ 2 ∷ []) (codes "a") ≡ 5 }
     ensures register { register_in 1 inverter_opened (2 ∷ []) (codes "q") ≡ 2 }
     ensures reset { reset_in inverter_opened 5 ≡ 2 }
 {}
@@ -229,14 +227,10 @@ fn values_of_eight_bits()
     ensures less { two_value TwoOp.Ltu 1 3 5 ≡ 1 }
     ensures same { two_value TwoOp.Ltu 1 5 5 ≡ 0 }
     ensures not { cell_value (slice_index (15 ∷ [])) 8 (Cell.Not (wire 0 8)) ≡ 240 }
-    ensures first {
-        cell_value (slice_index (1 ∷ 3 ∷ 5 ∷ [])) 8 (Cell.Choose (wire 0 1)
-            (wire 1 8) (wire 2 8)) ≡ 3
-    }
-    ensures second {
-        cell_value (slice_index (0 ∷ 3 ∷ 5 ∷ [])) 8 (Cell.Choose (wire 0 1)
-            (wire 1 8) (wire 2 8)) ≡ 5
-    }
+    ensures first { cell_value (slice_index (1 ∷ 3 ∷ 5 ∷ [])) 8 (Cell.Choose (wire 0 1)
+        (wire 1 8) (wire 2 8)) ≡ 3 }
+    ensures second { cell_value (slice_index (0 ∷ 3 ∷ 5 ∷ [])) 8 (Cell.Choose (wire 0 1)
+        (wire 1 8) (wire 2 8)) ≡ 5 }
     ensures cat { cell_value (slice_index (3 ∷ 5 ∷ [])) 16 (Cell.Cat (wire 0 8) (wire 1 8)) ≡ 773 }
     ensures slice { cell_value (slice_index (181 ∷ [])) 5 (Cell.Slice (wire 0 8) 6 2) ≡ 13 }
     ensures top_bit { cell_value (slice_index (181 ∷ [])) 1 (Cell.Slice (wire 0 8) 7 7) ≡ 1 }
@@ -246,27 +240,15 @@ fn values_of_eight_bits()
 fn values_of_sixty_four_bits()
     ensures add { two_value TwoOp.Add 64 18446744073709551615 1 ≡ 0 }
     ensures sub { two_value TwoOp.Sub 64 0 1 ≡ 18446744073709551615 }
-    ensures and {
-        two_value TwoOp.And 64 18446744073709551615 1311768467463790320 ≡ 1311768467463790320
-    }
-    ensures xor {
-        two_value TwoOp.Xor 64 18446744073709551615 1311768467463790320 ≡ 17134975606245761295
-    }
+    ensures and { two_value TwoOp.And 64 18446744073709551615 1311768467463790320 ≡ 1311768467463790320 }
+    ensures xor { two_value TwoOp.Xor 64 18446744073709551615 1311768467463790320 ≡ 17134975606245761295 }
     ensures ltu { two_value TwoOp.Ltu 1 9223372036854775808 9223372036854775807 ≡ 0 }
-    ensures not {
-        cell_value (slice_index (0 ∷ [])) 64 (Cell.Not (wire 0 64))
-            ≡ 18446744073709551615
-    }
-    ensures cat {
-        cell_value (slice_index (4294967295 ∷ 1 ∷ [])) 64 (Cell.Cat (wire 0 32) (wire 1 32))
-            ≡ 18446744069414584321
-    }
-    ensures top_bit {
-        cell_value (slice_index (9223372036854775808 ∷ [])) 1 (Cell.Slice
-            (wire 0 64) 63 63) ≡ 1
-    }
-    ensures whole {
-        cell_value (slice_index (18446744073709551615 ∷ [])) 64 (Cell.Slice
-            (wire 0 64) 63 0) ≡ 18446744073709551615
-    }
+    ensures not { cell_value (slice_index (0 ∷ [])) 64 (Cell.Not (wire 0 64))
+        ≡ 18446744073709551615 }
+    ensures cat { cell_value (slice_index (4294967295 ∷ 1 ∷ [])) 64 (Cell.Cat (wire 0 32) (wire 1 32))
+        ≡ 18446744069414584321 }
+    ensures top_bit { cell_value (slice_index (9223372036854775808 ∷ [])) 1 (Cell.Slice
+        (wire 0 64) 63 63) ≡ 1 }
+    ensures whole { cell_value (slice_index (18446744073709551615 ∷ [])) 64 (Cell.Slice
+        (wire 0 64) 63 0) ≡ 18446744073709551615 }
 {}

@@ -137,12 +137,8 @@ fn put_assign(
     out: &mut Vec<u8>,
 ) -> Result<(), NoMemory>
     requires to { assign.to.number < length (nets_of whole.now) }
-    requires operands {
-        Each (λ (o : Wire). o.number < length (nets_of whole.now)) (operands assign.cell)
-    }
-    ensures ok {
-        OnOk result (out.new.items ≡ out.old.items ++ assign_line (nets_of whole.now) assign)
-    }
+    requires operands { Each (λ (o : Wire). o.number < length (nets_of whole.now)) (operands assign.cell) }
+    ensures ok { OnOk result (out.new.items ≡ out.old.items ++ assign_line (nets_of whole.now) assign) }
     ensures err { OnErr result (out.new.items ≡ out.old.items) }
 {
     let to = whole.net_name(assign.to.number);
@@ -170,9 +166,7 @@ fn clocked_string(alloc: Global, at_reset: &str, at_edge: &str) -> Result<String
 fn put_next(alloc: Global, whole: &Module, next: Next, out: &mut Vec<u8>) -> Result<(), NoMemory>
     requires register { next.register.number < length (nets_of whole.now) }
     requires from { next.from.number < length (nets_of whole.now) }
-    ensures ok {
-        OnOk result (out.new.items ≡ out.old.items ++ always_line (nets_of whole.now) next)
-    }
+    ensures ok { OnOk result (out.new.items ≡ out.old.items ++ always_line (nets_of whole.now) next) }
     ensures err { OnErr result (out.new.items ≡ out.old.items) }
 {
     let q = whole.net_name(next.register.number);
@@ -229,14 +223,10 @@ fn put_assigns(
     out: &mut Vec<u8>,
 ) -> Result<(), NoMemory>
     requires results { Each (λ (a : Assign). a.to.number < length (nets_of whole.now)) assigns.now }
-    requires operands {
-        Each (λ (a : Assign).
-            Each (λ (o : Wire). o.number < length (nets_of whole.now)) (operands a.cell)) assigns.now
-    }
-    ensures {
-        OnOk result (out.new.items
-            ≡ out.old.items ++ flat_map (assign_line (nets_of whole.now)) assigns.now)
-    }
+    requires operands { Each (λ (a : Assign).
+        Each (λ (o : Wire). o.number < length (nets_of whole.now)) (operands a.cell)) assigns.now }
+    ensures { OnOk result (out.new.items
+        ≡ out.old.items ++ flat_map (assign_line (nets_of whole.now)) assigns.now) }
 {
     for assign in assigns {
         put_assign(alloc, whole, *assign, out)?;
@@ -251,14 +241,10 @@ fn put_nexts(
     nexts: &[Next],
     out: &mut Vec<u8>,
 ) -> Result<(), NoMemory>
-    requires registers {
-        Each (λ (x : Next). x.register.number < length (nets_of whole.now)) nexts.now
-    }
+    requires registers { Each (λ (x : Next). x.register.number < length (nets_of whole.now)) nexts.now }
     requires froms { Each (λ (x : Next). x.from.number < length (nets_of whole.now)) nexts.now }
-    ensures {
-        OnOk result (out.new.items
-            ≡ out.old.items ++ flat_map (always_line (nets_of whole.now)) nexts.now)
-    }
+    ensures { OnOk result (out.new.items
+        ≡ out.old.items ++ flat_map (always_line (nets_of whole.now)) nexts.now) }
 {
     for next in nexts {
         put_next(alloc, whole, *next, out)?;
@@ -285,10 +271,8 @@ fn put_connections(
 ) -> Result<(), NoMemory>
     requires same { length nets.now ≡ length ports.now }
     requires nets { Each (λ (w : Wire). w.number < length (nets_of whole.now)) nets.now }
-    ensures {
-        OnOk result (out.new.items
-            ≡ out.old.items ++ connections_text (nets_of whole.now) ports.now nets.now)
-    }
+    ensures { OnOk result (out.new.items
+        ≡ out.old.items ++ connections_text (nets_of whole.now) ports.now nets.now) }
 {
     for (i, port) in ports.iter().enumerate() {
         put_connection(alloc, port, whole.net_name(nets[i].number), out)?;
@@ -327,14 +311,10 @@ fn put_instance(
     instance: &Instance,
     out: &mut Vec<u8>,
 ) -> Result<(), NoMemory>
-    requires same {
-        length instance.now.nets ≡ length (ports_in (module_named modules.now instance.now.module))
-    }
+    requires same { length instance.now.nets ≡ length (ports_in (module_named modules.now instance.now.module)) }
     requires nets { Each (λ (w : Wire). w.number < length (nets_of whole.now)) instance.now.nets }
-    ensures {
-        OnOk result (out.new.items
-            ≡ out.old.items ++ instance_line modules.now (nets_of whole.now) instance.now)
-    }
+    ensures { OnOk result (out.new.items
+        ≡ out.old.items ++ instance_line modules.now (nets_of whole.now) instance.now) }
 {
     let module = instance.module.as_str();
     let name = instance.name.as_str();
@@ -354,18 +334,12 @@ fn put_instances(
     instances: &[Instance],
     out: &mut Vec<u8>,
 ) -> Result<(), NoMemory>
-    requires same {
-        Each (λ (i : Instance).
-            length i.nets ≡ length (ports_in (module_named modules.now i.module))) instances.now
-    }
-    requires nets {
-        Each (λ (i : Instance).
-            Each (λ (w : Wire). w.number < length (nets_of whole.now)) i.nets) instances.now
-    }
-    ensures {
-        OnOk result (out.new.items
-            ≡ out.old.items ++ flat_map (instance_line modules.now (nets_of whole.now)) instances.now)
-    }
+    requires same { Each (λ (i : Instance).
+        length i.nets ≡ length (ports_in (module_named modules.now i.module))) instances.now }
+    requires nets { Each (λ (i : Instance).
+        Each (λ (w : Wire). w.number < length (nets_of whole.now)) i.nets) instances.now }
+    ensures { OnOk result (out.new.items
+        ≡ out.old.items ++ flat_map (instance_line modules.now (nets_of whole.now)) instances.now) }
 {
     for instance in instances {
         put_instance(alloc, modules, whole, instance, out)?;
