@@ -1,5 +1,5 @@
 -- Units that take several cycles are asked properly, so the circuit goes as the machine does.
-use Rattle.std.proofs.Common.{◌≡◌, ◌≢◌, ℕ, zero, suc, ◌+◌, ◌-◌, ◌≤◌, ◌<◌, ◌==◌, ◌&&◌, ◌||◌, nat_lt, Bool, true, false, if◌then◌else◌, IfSome, List, [], ◌∷◌, ◌++◌, length, map, slice_index_or, Option, Some, None, option_map, refl, ap, sym, subst, ◌∙◌, arith, eqb-true, ltb-false}
+use Rattle.std.proofs.Common.{◌≡◌, ◌≢◌, ℕ, zero, suc, ◌+◌, ◌-◌, ◌≤◌, ◌<◌, ◌==◌, ◌&&◌, ◌||◌, nat_lt, Bool, true, false, if◌then◌else◌, IfSome, List, [], ◌∷◌, length, map, slice_index_or, Option, Some, None, option_map, refl, ap, sym, subst, ◌∙◌, arith, eqb-true, ltb-false}
 use Rattle.std.proofs.lemmas.Bool.{and_parts, eqb-false}
 use Rattle.std.specs.List.{range_with_len}
 use Rattle.ap_bits.specs.declared.card.Card.{Card}
@@ -8,13 +8,12 @@ use Rattle.ap_desc.specs.declared.design.Design.{Design}
 use Rattle.ap_image.specs.declared.image.Image.{Image}
 use Rattle.ap_image.specs.declared.trace.Trace.{Trace}
 use Rattle.ap_image.specs.declared.trace.TraceLine.{TraceLine}
-use Rattle.ap_model.specs.declared.state.Entry.{Entry}
 use Rattle.ap_model.specs.declared.state.Flight.{Flight}
 use Rattle.ap_model.specs.declared.state.State.{State}
-use Rattle.ap_model.specs.Cycles.{CycleControl, after_control, control_of, cycle, cycle_entries, cycle_flights, entering, flight_entries, flights_from, from_last, inputs_at, leaving, over, staying}
+use Rattle.ap_model.specs.Cycles.{after_control, control_of, cycle, inputs_at, over, staying}
 use Rattle.ap_model.specs.Stalls.{is_flight_busy, is_held_stage, need}
-use Rattle.ap_model.proofs.MachineLaws.{holds_from_zero, needs_latency}
-use Rattle.ap_model.specs.Stored.{with_writes}
+use Rattle.ap_model.specs.HeldStages.{all_held}
+use Rattle.ap_model.proofs.MachineLaws.{held_cycles, holds_from_zero, needs_latency}
 use Rattle.ap_cycle.specs.Circuit.{HoldsBusy, IsProper, NextState, ProperBefore}
 use Rattle.ap_cycle.specs.KeptStates.{KeepsFrom, KeepsStage, KeepsState, is_asked}
 use Rattle.ap_cycle.specs.Signals.{Signals}
@@ -28,31 +27,6 @@ use Rattle.ap_cycle.proofs.Steps.{cycle_holds, same_control}
 frozen : (design : Design) (busy : List Bool) (s t : ℕ) → is_held_stage design busy s ≡ is_held_stage design busy t
 unfolding is_held_stage
 frozen design busy s t = refl
-
--- A cycle in which all stages are held.
-
-abbrev held_control : Option ℕ → CycleControl
-held_control taken = record { held = λ stage. true; taken = taken }
-
-nothing_told : {X : Type 0} (told : ℕ → Flight → List X) → ((stage : ℕ) (flight : Flight) → told stage flight ≡ []) → (stage : ℕ) (flights : List (Option Flight)) → from_last told stage flights ≡ []
-nothing_told told none stage [] = refl
-nothing_told told none stage (None ∷ flights) = ap (λ xs. xs ++ []) (nothing_told told none (stage + 1) flights)
-nothing_told told none stage (Some flight ∷ flights) = λ i. nothing_told told none (stage + 1) flights i ++ none stage flight i
-
-held_storages : (design : Design) (cards : List Card) (image : Image) (inputs : TraceLine) (state : State) (taken : Option ℕ) → (after_control design cards image inputs state (held_control taken)).storages ≡ state.storages
-unfolding after_control cycle_entries with_writes
-held_storages design cards image inputs state taken = ap (λ es. with_writes state.storages (map (λ (e : Entry). e.write) es)) (nothing_told (flight_entries design cards inputs state (held_control taken)) (λ stage flight. refl) 1 state.flights)
-
-held_at : (design : Design) (cards : List Card) (inputs : TraceLine) (state : State) (taken : Option ℕ) (stage : ℕ) (coming : Option Flight) (flights : List (Option Flight)) (i : ℕ)
-    → slice_index_or (flights_from design cards inputs state (held_control taken) stage coming flights) i None ≡ option_map staying (slice_index_or flights i None)
-held_at design cards inputs state taken stage coming [] i = refl
-held_at design cards inputs state taken stage coming (flight ∷ flights) zero = refl
-held_at design cards inputs state taken stage coming (flight ∷ flights) (suc i) = held_at design cards inputs state taken (stage + 1) (leaving design cards inputs state (held_control taken) stage flight) flights i
-
-held_flights : (design : Design) (cards : List Card) (image : Image) (inputs : TraceLine) (state : State) (taken : Option ℕ) (i : ℕ)
-    → slice_index_or (after_control design cards image inputs state (held_control taken)).flights i None ≡ option_map staying (slice_index_or state.flights i None)
-unfolding after_control cycle_flights
-held_flights design cards image inputs state taken i = held_at design cards inputs state taken 1 (entering design image state (held_control taken)) state.flights i
 
 -- the flight of a stage
 abbrev StandsAt : Design → Signals → ℕ → Option Flight → Type 0
@@ -132,12 +106,12 @@ module _ (design : Design) (cards : List Card) (image : Image) (clean : IsClean 
   asked_again inputs later signals next state is goes holds fits next_holds next_fits stage unit low high of_stage asks_now asks_later age =
       let both = and_parts (signals.hold stage) (is_asked design signals stage unit) (aged (signals.hold stage && is_asked design signals stage unit) (signals.age unit) (next.age unit) (goes.ages stage unit of_stage) age) in
       let parts = and_parts (signals.valid stage) (asks design stage (signals.word stage) unit) both.1 in
-      let all_held : (t : ℕ) → signals.hold t ≡ true = λ t. is.hold t ∙ frozen design (map signals.busy (range_with_len 1 (design.stages - 1))) t stage ∙ sym (is.hold stage) ∙ both.0 in
-      let same : control_of design cards inputs state ≡ held_control signals.taken
-      = same_control design cards inputs signals clean is.stages state holds fits is.hold ∙ (λ i. record { held = λ t. all_held t i; taken = signals.taken }) in
-      let storages : (cycle design cards image inputs state).storages ≡ state.storages = ap (λ c. (after_control design cards image inputs state c).storages) same ∙ held_storages design cards image inputs state signals.taken in
+      let held_everywhere : (t : ℕ) → signals.hold t ≡ true = λ t. is.hold t ∙ frozen design (map signals.busy (range_with_len 1 (design.stages - 1))) t stage ∙ sym (is.hold stage) ∙ both.0 in
+      let same : control_of design cards inputs state ≡ all_held signals.taken
+      = same_control design cards inputs signals clean is.stages state holds fits is.hold ∙ (λ i. record { held = λ t. held_everywhere t i; taken = signals.taken }) in
+      let storages : (cycle design cards image inputs state).storages ≡ state.storages = ap (λ c. (after_control design cards image inputs state c).storages) same ∙ (held_cycles design cards image inputs state signals.taken).storages in
       let flights : slice_index_or (cycle design cards image inputs state).flights (stage - 1) None ≡ option_map staying (slice_index_or state.flights (stage - 1) None)
-      = ap (λ c. slice_index_or (after_control design cards image inputs state c).flights (stage - 1) None) same ∙ held_flights design cards image inputs state signals.taken (stage - 1) in
+      = ap (λ c. slice_index_or (after_control design cards image inputs state c).flights (stage - 1) None) same ∙ (held_cycles design cards image inputs state signals.taken).flights (stage - 1) in
       let now = stands design signals state stage low high holds fits in
       let afterwards = subst (StandsAt design next stage) flights (stands design next (cycle design cards image inputs state) stage low high next_holds next_fits) in
       go (slice_index_or state.flights (stage - 1) None) now afterwards parts.0 parts.1 (next_holds.storages ∙ storages ∙ sym holds.storages)

@@ -1,8 +1,14 @@
 -- The small circuit meets the border.
-use Rattle.std.proofs.Common.{◌≡◌, ℕ, zero, suc, ◌+◌, ◌/◌, ◌%◌, ◌^◌, ◌≤◌, ◌<◌, ◌==◌, ◌&&◌, not, Bool, true, false, if◌then◌else◌, [], ◌∷◌, slice_get, slice_index, Option, Some, None, refl, ap, sym, subst, ◌∙◌, arith, option_and_then}
+use Rattle.std.proofs.Common.{◌≡◌, ℕ, zero, suc, ◌+◌, ◌/◌, ◌%◌, ◌^◌, ◌≤◌, ◌<◌, ◌==◌, ◌&&◌, not, Bool, true, false, if◌then◌else◌, [], ◌∷◌, slice_get, slice_index, Option, Some, None, refl, ap, sym, subst, ◌∙◌, arith, rules, option_and_then}
+use Rattle.std.proofs.lemmas.Bool.{both_ways}
 use Rattle.std.proofs.lemmas.Bool.Decides.{nat_tests}
 use Rattle.std.specs.List.{list_any}
 use Rattle.std.specs.Option.{option_map_or}
+use Rattle.ap_desc.proofs.Apart.{no_word_shared}
+use Rattle.ap_desc.proofs.Behind.{none_closes, stable_operands}
+use Rattle.ap_desc.specs.Clean.{FitsCards, HasDesignFault}
+use Rattle.ap_desc.specs.declared.fault.Fault.{Fault}
+use Rattle.ap_desc.specs.declared.fault.Fault.TheVariants as f
 use Rattle.ap_desc.specs.declared.design.Act.{Act}
 use Rattle.ap_desc.specs.declared.design.Arg.{Arg}
 use Rattle.ap_desc.specs.declared.design.Instr.{Instr}
@@ -194,3 +200,14 @@ small_is_circuit image trace c = record {
   asked = λ j below. one_stage (ShowsAsked setter [] (inputs_at setter trace j) (small_circuit image j)) (asked image (small_state image j) (inputs_at setter trace j));
   shown = λ j below proper. one_stage (ShowsFired setter [] (inputs_at setter trace j) (small_circuit image j)) (shown image (small_state image j) (inputs_at setter trace j));
 }
+
+-- Its design fits its cards, of which there is none.
+
+setter_clean : (kind : Fault) (line : ℕ) → HasDesignFault setter kind line → ⊥
+setter_clean f.Overlap line h = no_word_shared setter refl line h
+setter_clean f.ChainLoop line h = none_closes 8 (λ n. 0) setter refl line h
+setter_clean f.UnstableOperand line h = stable_operands 8 (λ n. true) setter refl line refl h
+setter_clean _ line h = search (rules, both_ways)
+
+pub setter_fits : FitsCards setter []
+setter_fits = record { clean = record { sound = search rules; faultless = setter_clean }; of_cards = search rules }

@@ -25,8 +25,10 @@ pub fn circuits_are_the_machine()
         → (j : ℕ) → j < c → shown_row design (signals j) ≡ row design cards image trace j }
 {}
 
-/// The border can be met: the small processor's circuit meets it, on every image and trace and for every number of cycles.
+/// The border can be met: the small processor's circuit meets it, on every image and trace and for every number of cycles. Its design
+/// fits its cards, of which there is none, so that it is the machine.
 pub fn the_small_circuit_meets_the_border()
-    ensures { (image : Image) (trace : Trace) (c : ℕ)
+    ensures fits { FitsCards setter [] }
+    ensures meets { (image : Image) (trace : Trace) (c : ℕ)
         → IsCircuit setter [] image trace c (small_circuit image) }
 {}

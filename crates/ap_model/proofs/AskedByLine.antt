@@ -1,13 +1,11 @@
 -- With values that meet the equations of the quick lines, a unit is asked what the flight asks of it.
-use Rattle.std.proofs.Common.{◌≡◌, ℕ, ◌==◌, nat_lt, not, slice_index, Bool, true, false, if◌then◌else◌, List, [], filter_map, slice_get, Option, Some, None, refl, ap, sym, ◌∙◌, arith, eqb-true}
+use Rattle.std.proofs.Common.{◌≡◌, ℕ, ◌==◌, nat_lt, not, slice_index, Bool, true, false, if◌then◌else◌, List, [], slice_get, Option, Some, None, refl, ap, sym, ◌∙◌, arith, eqb-true}
 use Rattle.std.proofs.lemmas.Bool.{and_parts}
 use Rattle.std.specs.Prelude.{Contains}
-use Rattle.std.specs.List.{AllByRecursion as Each, list_any}
-use Rattle.std.specs.Option.{option_map_or}
+use Rattle.std.specs.List.{AllByRecursion as Each}
 use Rattle.ap_bits.specs.declared.card.Card.{Card}
 use Rattle.ap_desc.specs.Chains.{Reaches, operands_of}
 use Rattle.ap_desc.specs.Clean.{FitsCards}
-use Rattle.ap_desc.specs.Designs.{width_at}
 use Rattle.ap_desc.specs.StageFaults.{is_slow, is_unstable}
 use Rattle.ap_desc.specs.declared.design.Act.{Act}
 use Rattle.ap_desc.specs.declared.design.Act.TheVariants as act
@@ -15,7 +13,6 @@ use Rattle.ap_desc.specs.declared.design.Arg.{Arg}
 use Rattle.ap_desc.specs.declared.design.Design.{Design}
 use Rattle.ap_desc.specs.declared.design.Instr.{Instr}
 use Rattle.ap_desc.specs.declared.design.Micro.{Micro}
-use Rattle.ap_desc.specs.declared.design.Unit.{Unit as Resource}
 use Rattle.ap_image.specs.declared.trace.TraceLine.{TraceLine}
 use Rattle.ap_model.specs.declared.state.Flight.{Flight}
 use Rattle.ap_model.specs.declared.storage.Storages.{Storages}
@@ -23,10 +20,10 @@ use Rattle.ap_model.specs.Cycles.{port_input}
 use Rattle.ap_model.specs.Fire.{arg_value, fire, instr_effect, instr_of, lines_in}
 use Rattle.ap_model.specs.Fitting.{lines_before}
 use Rattle.ap_model.proofs.StageLemmas.{clean_is_runnable, word_is_good}
-use Rattle.ap_model.specs.FlightLocals.{HasLocals, is_live}
+use Rattle.ap_model.specs.FlightLocals.{HasLocals}
 use Rattle.ap_model.specs.LineForms.{ReadsLines, fired, flight_sight}
 use Rattle.ap_model.specs.PortForms.{stage_value}
-use Rattle.ap_model.specs.UnitUse.{Ask, AsksAreRight, act_ask, asks, instr_ask, is_quick, is_use_of, latency_of, lines_ask, unit_ask}
+use Rattle.ap_model.specs.UnitUse.{Ask, AsksAreRight, act_ask, asks, instr_ask, is_quick, latency_of, lines_ask, unit_ask}
 use Rattle.ap_desc.proofs.OnePort.{each_as}
 use Rattle.ap_model.proofs.LineOrder.{widths_count}
 use Rattle.ap_model.proofs.LinesFire.{fires_by_line}

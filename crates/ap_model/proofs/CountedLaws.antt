@@ -72,7 +72,7 @@ same_told told held same stage [] = refl
 same_told told held same stage (None ∷ flights) = ap (λ xs. xs ++ []) (same_told told held same (stage + 1) flights)
 same_told told held same stage (Some flight ∷ flights) = λ i. same_told told held same (stage + 1) flights i ++ same stage flight i
 
-nothing_told : {X : Type 0} (told : ℕ → Flight → List X) → ((stage : ℕ) (flight : Flight) → told stage flight ≡ []) → (stage : ℕ) (flights : List (Option Flight)) → from_last told stage flights ≡ []
+pub nothing_told : {X : Type 0} (told : ℕ → Flight → List X) → ((stage : ℕ) (flight : Flight) → told stage flight ≡ []) → (stage : ℕ) (flights : List (Option Flight)) → from_last told stage flights ≡ []
 nothing_told told none stage [] = refl
 nothing_told told none stage (None ∷ flights) = ap (λ xs. xs ++ []) (nothing_told told none (stage + 1) flights)
 nothing_told told none stage (Some flight ∷ flights) = λ i. nothing_told told none (stage + 1) flights i ++ none stage flight i

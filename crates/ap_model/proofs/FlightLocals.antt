@@ -1,10 +1,10 @@
 -- Every flight of the machine has as many locals as the lines of the earlier stages assign; and none is live in stage 1.
-use Rattle.std.proofs.Common.{◌≡◌, ℕ, zero, suc, ◌+◌, ◌-◌, ◌==◌, ◌&&◌, ◌||◌, nat_lt, not, Bool, true, false, if◌then◌else◌, IfSome, List, [], ◌∷◌, ◌++◌, length, filter, filter_map, cond, replicate, option_to_list, option_map, Option, Some, None, refl, ap, sym, ◌∙◌, arith, length-append}
+use Rattle.std.proofs.Common.{◌≡◌, ℕ, zero, suc, ◌+◌, ◌-◌, ◌&&◌, ◌||◌, nat_lt, not, Bool, true, false, if◌then◌else◌, IfSome, List, [], ◌∷◌, ◌++◌, length, filter_map, replicate, option_to_list, option_map, Option, Some, None, refl, ap, sym, ◌∙◌, arith, length-append}
 use Rattle.std.proofs.lemmas.Bool.Decides.{nat_tests}
 use Rattle.std.specs.List.{cons_option, list_any}
 use Rattle.std.specs.Option.{option_map_or}
 use Rattle.ap_bits.specs.declared.card.Card.{Card}
-use Rattle.ap_desc.specs.Designs.{local_width}
+use Rattle.ap_desc.specs.Designs.{local_width, fields_of}
 use Rattle.ap_desc.specs.declared.design.Act.{Act}
 use Rattle.ap_desc.specs.declared.design.Act.TheVariants as act
 use Rattle.ap_desc.specs.declared.design.Arg.{Arg}
@@ -17,45 +17,12 @@ use Rattle.ap_image.specs.declared.trace.TraceLine.{TraceLine}
 use Rattle.ap_model.specs.declared.state.Flight.{Flight}
 use Rattle.ap_model.specs.declared.state.State.{State}
 use Rattle.ap_model.specs.Cycles.{CycleControl, after_control, control_of, cycle, cycle_flights, entering, fetched, flight_effect, flights_from, gone_on, inputs_at, is_killed, leaving, over, port_input, staying}
-use Rattle.ap_model.specs.Fire.{Sight, act_value, arg_value, fields_of, fire, instr_effect, instr_of, lines_in, locals_after}
+use Rattle.ap_model.specs.Fire.{Sight, act_value, arg_value, fire, instr_effect, instr_of, lines_in, locals_after}
 use Rattle.ap_model.specs.Fitting.{assigned_by, assigned_width}
 use Rattle.ap_model.specs.Runnable.{IsRunnable}
 use Rattle.ap_model.specs.States.{start}
-use Rattle.ap_model.proofs.StageLemmas.{none_at_first, word_is_good}
+use Rattle.ap_model.proofs.StageLemmas.{counted, counted_next, none_at_first, word_is_good}
 use Rattle.ap_model.specs.FlightLocals.{HasLocals, HaveLocals, is_live, is_live_in, looks_at}
-
--- Lines before a stage, in it, and before the next.
-
-more_first : (o : Option ℕ) (xs ys zs : List ℕ) → length xs + length ys ≡ length zs → length (cons_option o xs) + length ys ≡ length (cons_option o zs)
-more_first None xs ys zs h = h
-more_first (Some w) xs ys zs h = omega (arith, h)
-
-more_second : (o : Option ℕ) (xs ys zs : List ℕ) → length xs + length ys ≡ length zs → length xs + length (cons_option o ys) ≡ length (cons_option o zs)
-more_second None xs ys zs h = h
-more_second (Some w) xs ys zs h = omega (arith, h)
-
-abbrev counted : (Micro → Option ℕ) → List Micro → ℕ
-counted width micros = length (filter_map width micros)
-
-split_three : (width : Micro → Option ℕ) (m : Micro) (xs ys zs : List Micro) (first second either : Bool) → either ≡ (first || second) → (first && second) ≡ false → counted width xs + counted width ys ≡ counted width zs
-    → counted width (cond first (m ∷ xs) xs) + counted width (cond second (m ∷ ys) ys) ≡ counted width (cond either (m ∷ zs) zs)
-split_three width m xs ys zs true true either e n h = cc
-split_three width m xs ys zs true false either e n h = rw e (more_first (width m) (filter_map width xs) (filter_map width ys) (filter_map width zs) h)
-split_three width m xs ys zs false true either e n h = rw e (more_second (width m) (filter_map width xs) (filter_map width ys) (filter_map width zs) h)
-split_three width m xs ys zs false false either e n h = rw e h
-
-below_next : (a b : ℕ) → nat_lt a (b + 1) ≡ (nat_lt a b || (a == b))
-below_next a b = grind (arith, nat_tests)
-
-not_both : (a b : ℕ) → (nat_lt a b && (a == b)) ≡ false
-not_both a b = grind (arith, nat_tests)
-
-counted_next : (width : Micro → Option ℕ) (stage : ℕ) (micros : List Micro)
-    → counted width (filter (λ (m : Micro). nat_lt m.stage stage) micros) + counted width (filter (λ (m : Micro). m.stage == stage) micros) ≡ counted width (filter (λ (m : Micro). nat_lt m.stage (stage + 1)) micros)
-counted_next width stage [] = refl
-counted_next width stage (m ∷ micros) =
-    split_three width m (filter (λ (m : Micro). nat_lt m.stage stage) micros) (filter (λ (m : Micro). m.stage == stage) micros) (filter (λ (m : Micro). nat_lt m.stage (stage + 1)) micros) (nat_lt m.stage stage) (m.stage == stage) (nat_lt m.stage (stage + 1))
-    (below_next m.stage stage) (not_both m.stage stage) (counted_next width stage micros)
 
 -- What lines assign.
 

@@ -2,6 +2,7 @@ pub mod AskedByLine
 pub mod CountedLaws
 pub mod EffectLemmas
 pub mod FlightLocals
+pub mod HeldCycles
 pub mod HeldStages
 pub mod LineOrder
 pub mod LinesFire

@@ -1,23 +1,15 @@
 -- The order of an instruction's lines, and how many locals they assign.
-use Rattle.std.proofs.Common.{◌≡◌, ℕ, zero, suc, ◌+◌, ◌-◌, ◌*◌, ◌/◌, ◌%◌, ◌^◌, ◌≤◌, ◌<◌, ◌==◌, nat_lt, not, Bool, true, false, if◌then◌else◌, List, [], ◌∷◌, ◌++◌, length, filter, filter_map, cond, slice_get, slice_index, slice_index_or, option_to_list, Option, Some, None, refl, ap, sym, subst, ◌∙◌, arith, length-append, append-nil, append_assoc, eqb-true, eq-eqb, option_and_then}
-use Rattle.std.proofs.lemmas.Bool.{and_parts}
-use Rattle.std.proofs.lemmas.Bool.Decides.{nat_tests}
-use Rattle.std.specs.Prelude.{Contains}
-use Rattle.std.specs.List.{AllByRecursion as Each, cons_option}
-use Rattle.ap_bits.specs.Operations.{sign_extended}
-use Rattle.ap_desc.specs.Chains.{Reaches, if_in_stage, maker_in, makers, operands_of}
-use Rattle.ap_desc.specs.Designs.{assigned_count, local_width, width_at}
+use Rattle.std.proofs.Common.{◌≡◌, ℕ, suc, ◌+◌, ◌≤◌, ◌==◌, nat_lt, not, Bool, true, false, if◌then◌else◌, List, [], ◌∷◌, ◌++◌, length, filter, filter_map, cond, slice_get, Some, refl, ap, ◌∙◌, arith}
+use Rattle.std.specs.List.{cons_option}
+use Rattle.ap_desc.specs.Designs.{assigned_count, local_width, fields_of}
 use Rattle.ap_desc.specs.declared.design.Act.{Act}
 use Rattle.ap_desc.specs.declared.design.Act.TheVariants as act
-use Rattle.ap_desc.specs.declared.design.Arg.{Arg}
-use Rattle.ap_desc.specs.declared.design.Arg.TheVariants as arg
 use Rattle.ap_desc.specs.declared.design.Design.{Design}
 use Rattle.ap_desc.specs.declared.design.Instr.{Instr}
 use Rattle.ap_desc.specs.declared.design.Micro.{Micro}
-use Rattle.ap_desc.specs.declared.design.Unit.{Unit as Resource}
-use Rattle.ap_model.specs.Fire.{Sight, act_value, arg_value, bits_of_arg, fields_of, instr_of, is_match, lines_in, locals_after, unit_value}
-use Rattle.ap_model.specs.Fitting.{assigned_by, assigned_width, lines_before}
+use Rattle.ap_model.specs.Fitting.{assigned_by, assigned_width}
 use Rattle.ap_model.specs.Runnable.{NeverFall}
+use Rattle.ap_model.proofs.StageLemmas.{before, below_or_same, none_before, tail_order, within}
 
 -- How many locals lines assign.
 
@@ -25,31 +17,11 @@ abbrev pub count : List Micro → ℕ
 count [] = 0
 count (m ∷ micros) = assigned_count m.act + count micros
 
-abbrev pub before : ℕ → List Micro → List Micro
-before stage micros = filter (λ (m : Micro). nat_lt m.stage stage) micros
-
-abbrev pub within : ℕ → List Micro → List Micro
-within stage micros = filter (λ (m : Micro). m.stage == stage) micros
-
 split_two : (m : Micro) (xs ys zs : List Micro) (first second : Bool) → first ≡ not second → count xs + count ys ≡ count zs → count (cond first (m ∷ xs) xs) + count (cond second (m ∷ ys) ys) ≡ count (m ∷ zs)
 split_two m xs ys zs true true e h = cc
 split_two m xs ys zs true false e h = omega (arith, h)
 split_two m xs ys zs false true e h = omega (arith, h)
 split_two m xs ys zs false false e h = cc
-
-below_or_same : (a b : ℕ) → a ≤ b → nat_lt a b ≡ not (a == b)
-below_or_same a b h = grind (arith, nat_tests)
-
-isnt_below : (a b : ℕ) → b ≤ a → nat_lt a b ≡ false
-isnt_below a b h = grind (arith, nat_tests)
-
-pub none_before : (stage : ℕ) (m : Micro) (micros : List Micro) → NeverFall (m ∷ micros) → stage ≤ m.stage → before stage (m ∷ micros) ≡ []
-none_before stage m [] order h = rw (isnt_below m.stage stage h) refl
-none_before stage m (n ∷ micros) order h = rw (isnt_below m.stage stage h) (none_before stage n micros order.1 (omega (arith, order.0)))
-
-pub tail_order : (m : Micro) (micros : List Micro) → NeverFall (m ∷ micros) → NeverFall micros
-tail_order m [] order = tt
-tail_order m (n ∷ micros) order = order.1
 
 pub first_below : (x : Micro) (earlier : List Micro) (m : Micro) (rest : List Micro) → NeverFall (x ∷ earlier ++ m ∷ rest) → x.stage ≤ m.stage
 first_below x [] m rest order = order.0

@@ -5,7 +5,7 @@ use Rattle.ap_bits.specs.Operations.{sign_extended}
 use Rattle.ap_bits.specs.declared.card.Card.{Card}
 use Rattle.ap_desc.specs.Chains.{if_in_stage, maker_in, makers}
 use Rattle.ap_desc.specs.Clean.{FitsCards}
-use Rattle.ap_desc.specs.Designs.{AreInRange, IsArg, IsInRange, assigned_count}
+use Rattle.ap_desc.specs.Designs.{AreInRange, IsArg, IsInRange, assigned_count, fields_of}
 use Rattle.ap_desc.specs.declared.design.Act.{Act}
 use Rattle.ap_desc.specs.declared.design.Act.TheVariants as act
 use Rattle.ap_desc.specs.declared.design.Arg.{Arg}
@@ -14,13 +14,13 @@ use Rattle.ap_desc.specs.declared.design.Design.{Design}
 use Rattle.ap_desc.specs.declared.design.Field.{Field}
 use Rattle.ap_desc.specs.declared.design.Micro.{Micro}
 use Rattle.ap_model.specs.Cycles.{port_input}
-use Rattle.ap_model.specs.Fire.{Sight, act_value, arg_value, bits_of_arg, fields_of, fire, instr_effect, lines_in, locals_after, unit_value}
+use Rattle.ap_model.specs.Fire.{Sight, act_value, arg_value, bits_of_arg, fire, instr_effect, lines_in, locals_after, unit_value}
 use Rattle.ap_model.specs.Fitting.{lines_before}
 use Rattle.ap_model.specs.Runnable.{NeverFall}
-use Rattle.ap_model.proofs.StageLemmas.{clean_is_runnable, word_is_good}
+use Rattle.ap_model.proofs.StageLemmas.{before, clean_is_runnable, within, word_is_good}
 use Rattle.ap_model.specs.LineForms.{FiresByLine, LocalsByLine, flight_sight}
 use Rattle.ap_model.proofs.FlightLocals.{count_after}
-use Rattle.ap_model.proofs.LineOrder.{before, count, split_earlier, widths_count, within}
+use Rattle.ap_model.proofs.LineOrder.{count, split_earlier, widths_count}
 
 -- the locals after lines begin with those before
 begins : (sight : Sight) (locals : List ℕ) (micros : List Micro) (i : ℕ) → i < length locals → slice_index (locals_after sight locals micros) i ≡ slice_index locals i

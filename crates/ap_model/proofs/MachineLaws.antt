@@ -1,20 +1,23 @@
 -- What the laws say, for proofs of the crates above.
-use Rattle.std.proofs.Common.{◌≡◌, ℕ, ◌≤◌, Bool, true, false, List}
+use Rattle.std.proofs.Common.{◌≡◌, ℕ, ◌≤◌, Bool, true, false, List, Option}
 use Rattle.ap_bits.specs.declared.card.Card.{Card}
 use Rattle.ap_desc.specs.Clean.{FitsCards, IsClean}
 use Rattle.ap_desc.specs.declared.design.Design.{Design}
 use Rattle.ap_image.specs.declared.image.Image.{Image}
 use Rattle.ap_image.specs.declared.trace.Trace.{Trace}
-use Rattle.ap_model.specs.Cycles.{over}
+use Rattle.ap_image.specs.declared.trace.TraceLine.{TraceLine}
+use Rattle.ap_model.specs.declared.state.State.{State}
+use Rattle.ap_model.specs.Cycles.{after_control, over}
 use Rattle.ap_model.specs.FlightLocals.{HaveLocals, is_live}
 use Rattle.ap_model.specs.LineForms.{FiresByLine, ReadingsAreRight}
 use Rattle.ap_model.specs.PortForms.{GoesByPorts, GoesThroughPorts, StageWritesByPorts, TargetsByLine, WritesByLine, Writing}
 use Rattle.ap_model.specs.Runnable.{IsRunnable}
-use Rattle.ap_model.specs.HeldStages.{HoldsFromZero}
+use Rattle.ap_model.specs.HeldStages.{HoldsAll, HoldsFromZero, all_held}
 use Rattle.ap_model.specs.Stalls.{need}
 use Rattle.ap_model.specs.UnitUse.{AsksAreRight, NeedsItsUnits, StableAsks, asks, latency_of}
 use Rattle.ap_model.proofs.AskedByLine as asked
 use Rattle.ap_model.proofs.FlightLocals as locals
+use Rattle.ap_model.proofs.HeldCycles as still
 use Rattle.ap_model.proofs.HeldStages as held
 use Rattle.ap_model.proofs.LinesFire as lines
 use Rattle.ap_model.proofs.OneTransfer as transfer
@@ -72,3 +75,6 @@ needs_latency = needs.needs_latency
 
 pub holds_from_zero : (design : Design) (busy : List Bool) → HoldsFromZero design busy
 holds_from_zero = held.holds_from_zero
+
+pub held_cycles : (design : Design) (cards : List Card) (image : Image) (inputs : TraceLine) (state : State) (taken : Option ℕ) → HoldsAll state (after_control design cards image inputs state (all_held taken))
+held_cycles = still.held_cycles

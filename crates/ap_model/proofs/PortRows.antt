@@ -1,5 +1,5 @@
 -- The groups of a row, port by port.
-use Rattle.std.proofs.Common.{◌≡◌, ℕ, ◌+◌, ◌<◌, false, List, [], ◌∷◌, ◌++◌, length, map, filter, flat_map, is_some, Option, Some, None, slice_get, option_to_list, refl, ap, ◌∙◌, arith}
+use Rattle.std.proofs.Common.{◌≡◌, ℕ, ◌+◌, ◌<◌, List, [], ◌∷◌, ◌++◌, length, map, filter, flat_map, Option, Some, None, slice_get, option_to_list, refl, ap, ◌∙◌, arith}
 use Rattle.std.specs.List.{AllByRecursion as Each, range_with_len}
 use Rattle.std.specs.Option.{option_map_or}
 use Rattle.ap_desc.specs.declared.design.Design.{Design}

@@ -8,8 +8,9 @@ use Rattle.ap_model.specs.declared.storage.PortWrite.{PortWrite}
 use Rattle.ap_model.specs.declared.storage.Storages.{Storages}
 use Rattle.ap_model.specs.declared.storage.WritePort.{WritePort}
 use Rattle.ap_model.specs.declared.storage.WritePort.TheVariants as port
-use Rattle.ap_model.specs.Ports.{file_groups, is_same_port, is_used}
-use Rattle.ap_model.specs.Stored.{file_cell_value, reg_value, with_value, with_word, with_write, with_writes}
+use Rattle.ap_model.specs.Ports.{file_groups, is_same_port}
+use Rattle.ap_image.specs.Words.{with_word}
+use Rattle.ap_model.specs.Stored.{file_cell_value, reg_value, with_value, with_write, with_writes}
 use Rattle.ap_model.specs.PortForms.{GoesThroughPorts, StoresWrites, Writing, all_writes, cell_after, cells_of, through, words_of}
 use Rattle.ap_model.proofs.ListLemmas.{fold_filter}
 use Rattle.ap_model.proofs.PortsOnce.{file_among_all, is_of_file, mem_is_port, one_through, reg_is_port, tested}

@@ -1,8 +1,8 @@
 -- Values that meet the lines' equations write, transfer and leave locals as the flight does.
-use Rattle.std.proofs.Common.{◌≡◌, ℕ, ◌+◌, ◌≤◌, ◌<◌, ◌==◌, ◌&&◌, ◌||◌, nat_lt, not, Bool, true, false, if◌then◌else◌, List, [], ◌∷◌, ◌++◌, length, filter, filter_map, find, cond, slice_get, slice_index, option_and_then, option_to_list, Option, Some, None, refl, ap, sym, subst, ◌∙◌, arith, eqb-true, eq-eqb, ltb-true, ltb-false}
+use Rattle.std.proofs.Common.{◌≡◌, ℕ, ◌+◌, ◌≤◌, ◌<◌, ◌==◌, ◌&&◌, ◌||◌, nat_lt, not, Bool, true, false, if◌then◌else◌, List, [], ◌∷◌, ◌++◌, length, filter, filter_map, find, cond, slice_get, slice_index, option_and_then, option_to_list, Option, Some, None, refl, ap, sym, subst, ◌∙◌, arith, eq-eqb, ltb-true, ltb-false}
 use Rattle.std.proofs.lemmas.Bool.{and_parts, lt-ltb}
 use Rattle.std.specs.Prelude.{Contains}
-use Rattle.std.specs.List.{AllByRecursion as Each, cons_option, list_any}
+use Rattle.std.specs.List.{AllByRecursion as Each, list_any}
 use Rattle.std.specs.Option.{option_map_or}
 use Rattle.ap_bits.specs.declared.card.Card.{Card}
 use Rattle.ap_desc.specs.Chains.{maker_in, makers, operands_of, if_in_stage}
@@ -28,12 +28,12 @@ use Rattle.ap_model.specs.declared.storage.Storages.{Storages}
 use Rattle.ap_model.specs.Ports.{is_used_in, writes_through}
 use Rattle.ap_model.specs.Fitting.{assigned_by}
 use Rattle.ap_model.specs.Runnable.{NeverFall}
-use Rattle.ap_model.proofs.StageLemmas.{clean_is_runnable, word_is_good}
+use Rattle.ap_model.proofs.StageLemmas.{before, clean_is_runnable, none_before, tail_order, word_is_good}
 use Rattle.ap_model.specs.FlightLocals.{HasLocals, is_live, is_live_in, looks_at}
-use Rattle.ap_model.specs.LineForms.{LocalsByLine, ReadingsAreRight, ReadsLines, ReadsRight, fired, flight_sight}
+use Rattle.ap_model.specs.LineForms.{LocalsByLine, ReadingsAreRight, ReadsLines, fired, flight_sight}
 use Rattle.ap_model.specs.PortForms.{line_write, stage_value, write_through}
 use Rattle.ap_desc.proofs.OnePort.{each_as}
-use Rattle.ap_model.proofs.LineOrder.{at_maker, before, count, none_before, tail_order, widths_count}
+use Rattle.ap_model.proofs.LineOrder.{at_maker, count, widths_count}
 use Rattle.ap_model.proofs.LinesFire.{fires_by_line}
 use Rattle.ap_model.proofs.ListLemmas.{contains_each, each_in_stage, filter_map_each}
 use Rattle.ap_model.proofs.Readings.{ReadsGood, all_before, all_good, local_read, made_among, operands_read}

@@ -8,8 +8,7 @@ use Rattle.std.specs.Option.{option_map_or}
 use Rattle.ap_bits.specs.Operations.{sign_extended}
 use Rattle.ap_bits.specs.declared.card.Card.{Card}
 use Rattle.ap_desc.specs.Chains.{if_in_stage, maker_in, makers, operands_of}
-use Rattle.ap_desc.specs.Clean.{FitsCards}
-use Rattle.ap_desc.specs.Designs.{AreInRange, IsArg, IsInRange, assigned_count}
+use Rattle.ap_desc.specs.Designs.{AreInRange, IsArg, IsInRange, assigned_count, fields_of}
 use Rattle.ap_desc.specs.declared.design.Act.{Act}
 use Rattle.ap_desc.specs.declared.design.Act.TheVariants as act
 use Rattle.ap_desc.specs.declared.design.Arg.{Arg}
@@ -21,15 +20,14 @@ use Rattle.ap_desc.specs.declared.design.Micro.{Micro}
 use Rattle.ap_image.specs.declared.trace.TraceLine.{TraceLine}
 use Rattle.ap_model.specs.declared.state.Flight.{Flight}
 use Rattle.ap_model.specs.declared.storage.Storages.{Storages}
-use Rattle.ap_model.specs.Cycles.{port_input}
-use Rattle.ap_model.specs.Fire.{Sight, act_value, arg_value, bits_of_arg, fields_of, instr_of, link_of, unit_value}
+use Rattle.ap_model.specs.Fire.{Sight, act_value, arg_value, bits_of_arg, instr_of, link_of, unit_value}
 use Rattle.ap_model.specs.Fitting.{lines_before}
 use Rattle.ap_model.specs.Runnable.{NeverFall}
-use Rattle.ap_model.proofs.StageLemmas.{clean_is_runnable, word_is_good}
+use Rattle.ap_model.proofs.StageLemmas.{before, tail_order}
 use Rattle.ap_model.specs.FlightLocals.{is_live, is_live_in, is_local, looks_at}
-use Rattle.ap_model.specs.LineForms.{LocalsByLine, ReadingsAreRight, flight_sight}
-use Rattle.ap_model.proofs.LineOrder.{at_maker, before, count, first_below, tail_order, widths_count}
-use Rattle.ap_model.proofs.LinesFire.{fires_by_line, of_stage, range_at, split_at}
+use Rattle.ap_model.specs.LineForms.{LocalsByLine, flight_sight}
+use Rattle.ap_model.proofs.LineOrder.{at_maker, count, first_below, widths_count}
+use Rattle.ap_model.proofs.LinesFire.{of_stage, range_at, split_at}
 
 -- a line that assigns, among these, by its number
 pub record IsMade (micros : List Micro) (k : ℕ) : Type 0 where

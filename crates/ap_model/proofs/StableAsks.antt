@@ -1,14 +1,13 @@
 -- What a unit of several cycles is asked doesn't look at the inputs of the cycle.
-use Rattle.std.proofs.Common.{◌≡◌, ℕ, zero, suc, ◌+◌, ◌-◌, ◌*◌, ◌/◌, ◌%◌, ◌^◌, ◌≤◌, ◌<◌, ◌==◌, nat_lt, not, Bool, true, false, if◌then◌else◌, List, [], ◌∷◌, ◌++◌, length, filter, filter_map, cond, slice_get, slice_index, slice_index_or, option_to_list, Option, Some, None, refl, ap, sym, subst, ◌∙◌, arith, length-append, append-nil, append_assoc, eqb-true, eq-eqb, option_and_then}
+use Rattle.std.proofs.Common.{◌≡◌, ℕ, zero, suc, ◌+◌, ◌-◌, ◌*◌, ◌/◌, ◌%◌, ◌^◌, ◌<◌, ◌==◌, nat_lt, Bool, true, false, if◌then◌else◌, List, [], ◌∷◌, ◌++◌, length, filter, filter_map, cond, slice_get, slice_index, slice_index_or, option_to_list, Option, Some, None, refl, ap, sym, subst, ◌∙◌, arith, length-append, append-nil, append_assoc, eqb-true, eq-eqb, option_and_then}
 use Rattle.std.proofs.lemmas.Bool.{and_parts}
-use Rattle.std.proofs.lemmas.Bool.Decides.{nat_tests}
 use Rattle.std.specs.Prelude.{Contains}
 use Rattle.std.specs.List.{AllByRecursion as Each, cons_option}
 use Rattle.ap_bits.specs.Operations.{sign_extended}
 use Rattle.ap_bits.specs.declared.card.Card.{Card}
 use Rattle.ap_desc.specs.Chains.{Reaches, if_in_stage, maker_in, makers, operands_of}
 use Rattle.ap_desc.specs.Clean.{FitsCards}
-use Rattle.ap_desc.specs.Designs.{assigned_count, local_width, width_at}
+use Rattle.ap_desc.specs.Designs.{assigned_count, width_at}
 use Rattle.ap_desc.specs.StageFaults.{is_slow, is_unstable}
 use Rattle.ap_desc.specs.declared.design.Act.{Act}
 use Rattle.ap_desc.specs.declared.design.Act.TheVariants as act
@@ -23,15 +22,14 @@ use Rattle.ap_image.specs.declared.trace.TraceLine.{TraceLine}
 use Rattle.ap_model.specs.declared.state.Flight.{Flight}
 use Rattle.ap_model.specs.declared.storage.Storages.{Storages}
 use Rattle.ap_model.specs.Cycles.{port_input}
-use Rattle.ap_model.specs.Fire.{Sight, act_value, arg_value, bits_of_arg, fields_of, instr_of, is_match, lines_in, locals_after, unit_value}
-use Rattle.ap_model.specs.Fitting.{assigned_by, assigned_width, lines_before}
+use Rattle.ap_model.specs.Fire.{Sight, act_value, arg_value, bits_of_arg, instr_of, is_match, lines_in, locals_after, unit_value}
+use Rattle.ap_model.specs.Fitting.{lines_before}
 use Rattle.ap_model.specs.Runnable.{NeverFall}
-use Rattle.ap_model.proofs.StageLemmas.{clean_is_runnable, word_is_good}
+use Rattle.ap_model.proofs.StageLemmas.{before, clean_is_runnable, within, word_is_good}
 use Rattle.ap_model.specs.FlightLocals.{HasLocals}
-use Rattle.ap_model.specs.LineForms.{flight_sight}
-use Rattle.ap_model.specs.UnitUse.{Ask, StableAsks, act_ask, asks, instr_ask, lines_ask, unit_ask}
+use Rattle.ap_model.specs.UnitUse.{Ask, StableAsks, act_ask, asks, instr_ask, unit_ask}
 use Rattle.ap_desc.proofs.OnePort.{each_as}
-use Rattle.ap_model.proofs.LineOrder.{at_maker, before, count, split_earlier, widths_count, within, within_more}
+use Rattle.ap_model.proofs.LineOrder.{at_maker, count, split_earlier, widths_count, within_more}
 use Rattle.ap_model.proofs.ListLemmas.{contains_each, each_place, found_keeps}
 
 -- one value more in both

@@ -115,13 +115,13 @@ line_typed sight i m good at = list_all_get (λ (m : Micro). has_widths sight.de
 
 -- How many locals there are.
 
-abbrev before : ℕ → List Micro → List Micro
+abbrev pub before : ℕ → List Micro → List Micro
 before stage micros = filter (λ (m : Micro). nat_lt m.stage stage) micros
 
-abbrev within : ℕ → List Micro → List Micro
+abbrev pub within : ℕ → List Micro → List Micro
 within stage micros = filter (λ (m : Micro). m.stage == stage) micros
 
-abbrev counted : (Micro → Option ℕ) → List Micro → ℕ
+abbrev pub counted : (Micro → Option ℕ) → List Micro → ℕ
 counted width micros = length (filter_map width micros)
 
 more_first : (o : Option ℕ) (xs ys zs : List ℕ) → length xs + length ys ≡ length zs → length (cons_option o xs) + length ys ≡ length (cons_option o zs)
@@ -148,7 +148,7 @@ split_three width m xs ys zs true false either e n h = rw e (more_first (width m
 split_three width m xs ys zs false true either e n h = rw e (more_second (width m) (filter_map width xs) (filter_map width ys) (filter_map width zs) h)
 split_three width m xs ys zs false false either e n h = rw e h
 
-below_or_same : (a b : ℕ) → a ≤ b → nat_lt a b ≡ not (a == b)
+pub below_or_same : (a b : ℕ) → a ≤ b → nat_lt a b ≡ not (a == b)
 below_or_same a b h = grind (arith, nat_tests)
 
 below_next : (a b : ℕ) → nat_lt a (b + 1) ≡ (nat_lt a b || (a == b))
@@ -157,14 +157,14 @@ below_next a b = grind (arith, nat_tests)
 not_both : (a b : ℕ) → (nat_lt a b && (a == b)) ≡ false
 not_both a b = grind (arith, nat_tests)
 
-isnt_below : (a b : ℕ) → b ≤ a → nat_lt a b ≡ false
+pub isnt_below : (a b : ℕ) → b ≤ a → nat_lt a b ≡ false
 isnt_below a b h = grind (arith, nat_tests)
 
-none_before : (stage : ℕ) (m : Micro) (micros : List Micro) → NeverFall (m ∷ micros) → stage ≤ m.stage → before stage (m ∷ micros) ≡ []
+pub none_before : (stage : ℕ) (m : Micro) (micros : List Micro) → NeverFall (m ∷ micros) → stage ≤ m.stage → before stage (m ∷ micros) ≡ []
 none_before stage m [] order h = rw (isnt_below m.stage stage h) refl
 none_before stage m (n ∷ micros) order h = rw (isnt_below m.stage stage h) (none_before stage n micros order.1 (omega (arith, order.0)))
 
-tail_order : (m : Micro) (micros : List Micro) → NeverFall (m ∷ micros) → NeverFall micros
+pub tail_order : (m : Micro) (micros : List Micro) → NeverFall (m ∷ micros) → NeverFall micros
 tail_order m [] order = tt
 tail_order m (n ∷ micros) order = order.1
 
@@ -199,7 +199,7 @@ at_place width (m ∷ micros) (suc i) x w at e = go (width m) (at_place width mi
     go (Some v) rest = rest
 
 -- the lines up to a stage
-counted_next : (width : Micro → Option ℕ) (stage : ℕ) (micros : List Micro) → counted width (before stage micros) + counted width (within stage micros) ≡ counted width (before (stage + 1) micros)
+pub counted_next : (width : Micro → Option ℕ) (stage : ℕ) (micros : List Micro) → counted width (before stage micros) + counted width (within stage micros) ≡ counted width (before (stage + 1) micros)
 counted_next width stage [] = refl
 counted_next width stage (m ∷ micros) =
     split_three width m (before stage micros) (within stage micros) (before (stage + 1) micros) (nat_lt m.stage stage) (m.stage == stage) (nat_lt m.stage (stage + 1))

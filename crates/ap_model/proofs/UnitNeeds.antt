@@ -1,7 +1,6 @@
 -- A flight needs its stage for another cycle exactly where one of its units is not done.
-use Rattle.std.proofs.Common.{◌≡◌, ◌≢◌, ℕ, zero, suc, ◌+◌, ◌≤◌, ◌<◌, ◌==◌, ◌&&◌, ◌||◌, nat_lt, max, not, Bool, true, false, List, [], ◌∷◌, length, fold, filter_map, slice_get, Option, Some, None, option_map, refl, ap, sym, ◌∙◌, arith, eqb-true, ltb-true, ltb-false}
+use Rattle.std.proofs.Common.{◌≡◌, ◌≢◌, ℕ, zero, suc, ◌+◌, ◌≤◌, ◌<◌, ◌==◌, ◌&&◌, ◌||◌, nat_lt, max, Bool, true, false, List, [], ◌∷◌, length, fold, filter_map, slice_get, Option, Some, None, option_map, refl, ap, sym, ◌∙◌, arith, eqb-true, ltb-true, ltb-false}
 use Rattle.std.proofs.lemmas.Bool.{and_parts, lt-ltb, eqb-false}
-use Rattle.std.proofs.lemmas.Bool.Decides.{nat_tests}
 use Rattle.std.specs.List.{AllByRecursion as Each, list_any, range_with_len, cons_option}
 use Rattle.std.specs.Option.{option_map_or}
 use Rattle.ap_desc.specs.declared.design.Design.{Design}
@@ -12,9 +11,7 @@ use Rattle.ap_desc.specs.declared.design.Act.TheVariants as act
 use Rattle.ap_desc.specs.declared.design.Unit.{Unit as Resource}
 use Rattle.ap_model.specs.declared.state.Flight.{Flight}
 use Rattle.ap_model.specs.Fire.{instr_of, lines_in}
-use Rattle.ap_model.specs.Fitting.{assigned_by}
-use Rattle.ap_model.specs.Stalls.{has_memory_line, instr_need, line_latency, need}
-use Rattle.ap_model.specs.FlightLocals.{is_live, is_live_in, looks_at}
+use Rattle.ap_model.specs.Stalls.{instr_need, line_latency, need}
 use Rattle.ap_model.specs.UnitUse.{NeedsItsUnits, asks, is_busy_with, is_use_of, latency_of}
 use Rattle.ap_desc.proofs.OnePort.{each_as, from_any}
 

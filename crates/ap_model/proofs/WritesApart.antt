@@ -1,5 +1,5 @@
 -- In a clean design the ports through which lines write are apart, as all ports are.
-use Rattle.std.proofs.Common.{◌≡◌, ℕ, ◌-◌, ◌≤◌, ◌==◌, ◌&&◌, ◌||◌, Bool, true, false, List, [], ◌∷◌, length, filter, refl, ap, sym, subst, ◌∙◌, arith}
+use Rattle.std.proofs.Common.{◌≡◌, ℕ, ◌-◌, ◌≤◌, ◌==◌, ◌&&◌, true, List, [], ◌∷◌, length, filter, refl, ap, sym, subst, ◌∙◌, arith}
 use Rattle.std.specs.List.{AllByRecursion as Each, list_any}
 use Rattle.ap_desc.proofs.OnePort.{clean_apart, each_as, from_any}
 use Rattle.ap_desc.specs.Clean.{IsClean}

@@ -1,6 +1,6 @@
 -- What a stage does, line by line. A circuit computes a stage's lines all at once, each from values that the others give. Such
 -- values meet one equation for each line, and then they are the machine's.
-use Rattle.std.specs.Prelude.{◌≡◌, ℕ, ◌+◌, ◌<◌, Contains, true, Bool, List, [], filter_map, length, Option, Some, slice_get, slice_index}
+use Rattle.std.specs.Prelude.{◌≡◌, ℕ, ◌+◌, ◌<◌, Contains, true, Bool, List, [], filter_map, length, Some, slice_get, slice_index}
 use Rattle.std.specs.List.{AllByRecursion as Each}
 use Rattle.ap_bits.specs.declared.card.Card.{Card}
 use Rattle.ap_desc.specs.Chains.{maker_in, operands_of}

@@ -1,5 +1,5 @@
 -- What goes through each port in a cycle, and what a row and the storages have of it, port by port.
-use Rattle.std.specs.Prelude.{◌≡◌, ℕ, ◌+◌, ◌<◌, ◌==◌, if◌then◌else◌, Bool, true, false, List, [], ◌∷◌, ◌++◌, fold, filter, filter_map, find, slice_get, length, Option, Some, None, slice_index_or, option_and_then, option_to_list}
+use Rattle.std.specs.Prelude.{◌≡◌, ℕ, ◌+◌, ◌<◌, ◌==◌, if◌then◌else◌, true, false, List, [], ◌∷◌, ◌++◌, fold, filter, filter_map, find, slice_get, length, Option, Some, None, slice_index_or, option_and_then, option_to_list}
 use Rattle.std.specs.List.{flat_map}
 use Rattle.std.specs.Option.{option_map_or}
 use Rattle.ap_bits.specs.declared.card.Card.{Card}
@@ -16,7 +16,8 @@ use Rattle.ap_model.specs.declared.storage.WritePort.TheVariants as port
 use Rattle.ap_model.specs.Fire.{Sight, arg_value, fire, instr_of, lines_in, locals_after, target_of, write_of}
 use Rattle.ap_model.specs.Ports.{file_groups, is_same_port, is_used, is_used_in, row_ports, stages_from_last, write_ports, writes_through}
 use Rattle.ap_model.specs.ShownRows.{group_writes, shown_write}
-use Rattle.ap_model.specs.Stored.{file_cell_value, reg_value, with_word, with_writes}
+use Rattle.ap_image.specs.Words.{with_word}
+use Rattle.ap_model.specs.Stored.{file_cell_value, reg_value, with_writes}
 
 -- the write that goes through each port in a cycle, if one does
 abbrev pub Writing : Type 0

@@ -1,24 +1,33 @@
 //! Laws of the definitions. They do nothing: their contracts are what they say.
-ghost use Rattle.std.specs.Prelude.{◌≡◌, ℕ, ◌≤◌, Bool, true, false, List};
+ghost use Rattle.std.specs.Prelude.{◌≡◌, ℕ, ◌≤◌, Bool, true, false, List, Option};
 ghost use Rattle.ap_bits.specs.declared.card.Card.{Card};
 ghost use Rattle.ap_desc.specs.Clean.{FitsCards, IsClean};
 ghost use Rattle.ap_desc.specs.declared.design.Design.{Design};
 ghost use Rattle.ap_image.specs.declared.image.Image.{Image};
 ghost use Rattle.ap_image.specs.declared.trace.Trace.{Trace};
-ghost use Rattle.ap_model.specs.Cycles.{over};
+ghost use Rattle.ap_image.specs.declared.trace.TraceLine.{TraceLine};
+ghost use Rattle.ap_model.specs.Cycles.{after_control, over};
 ghost use Rattle.ap_model.specs.FlightLocals.{HaveLocals, is_live};
-ghost use Rattle.ap_model.specs.HeldStages.{HoldsFromZero};
+ghost use Rattle.ap_model.specs.HeldStages.{HoldsAll, HoldsFromZero, all_held};
 ghost use Rattle.ap_model.specs.LineForms.{FiresByLine, ReadingsAreRight};
 ghost use Rattle.ap_model.specs.OneCount.{IsSameMachine};
 ghost use Rattle.ap_model.specs.PortForms.{GoesByPorts, GoesThroughPorts, StageWritesByPorts, TargetsByLine, WritesByLine, Writing};
 ghost use Rattle.ap_model.specs.Runnable.{IsRunnable};
 ghost use Rattle.ap_model.specs.Stalls.{need};
+ghost use Rattle.ap_model.specs.declared.state.State.{State};
 ghost use Rattle.ap_model.specs.UnitUse.{AsksAreRight, NeedsItsUnits, StableAsks, asks, latency_of};
 
 /// A busy stage is held, and with a stage all before it; with stage 0 the transfer's stage is held too.
 #[tactic(auto, using(crate::proofs::HeldStages::holds_from_zero))]
 pub fn busy_stages_hold()
     ensures { (design : Design) (busy : List Bool) → HoldsFromZero design busy }
+{}
+
+/// A cycle in which all stages are held changes nothing that is stored, and each flight stays in its stage.
+pub fn held_cycles_change_nothing()
+    ensures { (design : Design) (cards : List Card) (image : Image) (inputs : TraceLine)
+        (state : State) (taken : Option ℕ)
+        → HoldsAll state (after_control design cards image inputs state (all_held taken)) }
 {}
 
 /// While a busy stage holds all stages, the machine is the one with a single count of stalled cycles: it has the same states, where

@@ -1,0 +1,4 @@
+pub mod Asked
+pub mod NetMachine
+pub mod NetRows
+pub mod NetStates
