@@ -20,7 +20,7 @@ use Rattle.ap_image.specs.declared.fault.TextKind.TheVariants.{BadForm, NoSuchPa
 use Rattle.ap_image.specs.declared.trace.TraceLine.{TraceLine}
 use Rattle.ap_image.specs.FitsShape.{LineFitsShape, ValuesFit}
 use Rattle.ap_image.specs.Shapes.{Shape}
-use Rattle.ap_image.specs.TextFaults.{IsFine, IsLeastAt, IsLineFault, number_of}
+use Rattle.ap_image.specs.TextFaults.{IsFine, IsLeastAt, IsFaultOfLine, number_of}
 use Rattle.ap_image.specs.TraceTexts.{IsCycleOf, IsTraceOf, are_within, before_numbers, cycle_by, is_miscounted, numbers_by, numbers_in, trace_fault, widths_of}
 use Rattle.ap_image.proofs.FirstFaults.{at_least_one, fine_push}
 use Rattle.ap_image.proofs.PartLists.{each_push}
@@ -95,10 +95,10 @@ cycle_good shape line wait ports e same low within = record {
   fine TooManyWords before = refl
 
 -- why a line is no cycle
-form_fault : (shape : Shape) (line : TextLine) (number : ℕ) (fault : TextFault) → is_miscounted shape line ≡ true → line.number ≡ number → fault ≡ At number BadForm → (before : List TextLine) → IsLineFault (trace_fault shape) before line fault
+form_fault : (shape : Shape) (line : TextLine) (number : ℕ) (fault : TextFault) → is_miscounted shape line ≡ true → line.number ≡ number → fault ≡ At number BadForm → (before : List TextLine) → IsFaultOfLine (trace_fault shape) before line fault
 form_fault shape line number fault h n e before = rw e (sym n, record { holds = h; least = λ other f. at_least_one other })
 
-pub none_fault : (shape : Shape) (line : TextLine) (number : ℕ) (fault : TextFault) → numbers_by line ≡ None → line.number ≡ number → fault ≡ At number BadForm → (before : List TextLine) → IsLineFault (trace_fault shape) before line fault
+pub none_fault : (shape : Shape) (line : TextLine) (number : ℕ) (fault : TextFault) → numbers_by line ≡ None → line.number ≡ number → fault ≡ At number BadForm → (before : List TextLine) → IsFaultOfLine (trace_fault shape) before line fault
 none_fault shape line number fault none n e = form_fault shape line number fault (rw none refl) n e
 
 -- a line that isn't clean consists of no numbers
@@ -122,7 +122,7 @@ rest_none line first rest tokens e = rw (tokens, e, before_none (number_value fi
   either false = refl
 
 -- a wrong count of tokens
-pub count_fault : (shape : Shape) (line : TextLine) (number : ℕ) (fault : TextFault) → (length line.tokens ≡ suc (length shape.inputs) → ⊥) → line.number ≡ number → fault ≡ At number BadForm → (before : List TextLine) → IsLineFault (trace_fault shape) before line fault
+pub count_fault : (shape : Shape) (line : TextLine) (number : ℕ) (fault : TextFault) → (length line.tokens ≡ suc (length shape.inputs) → ⊥) → line.number ≡ number → fault ≡ At number BadForm → (before : List TextLine) → IsFaultOfLine (trace_fault shape) before line fault
 unfolding numbers_by
 count_fault shape line number fault differ n e = form_fault shape line number fault (by_case line.clean) n e where
   counted : (o : Option (List ℕ)) → ((ns : List ℕ) → o ≡ Some ns → length ns ≡ length line.tokens) → not (option_map_or (λ (ns : List ℕ). eqb (length ns) (length (widths_of shape))) o false) ≡ true
@@ -133,7 +133,7 @@ count_fault shape line number fault differ n e = form_fault shape line number fa
   by_case false = refl
 
 -- a number that doesn't fit
-pub wide_fault : (shape : Shape) (line : TextLine) (wait : ℕ) (ports : List ℕ) (number : ℕ) (fault : TextFault) → numbers_by line ≡ Some (wait ∷ ports) → length ports ≡ length shape.inputs → (nat_lt wait 2 && are_within ports shape.inputs) ≡ false → line.number ≡ number → fault ≡ At number ValueTooWide → (before : List TextLine) → IsLineFault (trace_fault shape) before line fault
+pub wide_fault : (shape : Shape) (line : TextLine) (wait : ℕ) (ports : List ℕ) (number : ℕ) (fault : TextFault) → numbers_by line ≡ Some (wait ∷ ports) → length ports ≡ length shape.inputs → (nat_lt wait 2 && are_within ports shape.inputs) ≡ false → line.number ≡ number → fault ≡ At number ValueTooWide → (before : List TextLine) → IsFaultOfLine (trace_fault shape) before line fault
 wide_fault shape line wait ports number fault e same wide n f before = rw f (sym n, record { holds = rw (e, wide) refl; least = least }) where
   count : eqb (length (wait ∷ ports)) (length (widths_of shape)) ≡ true
   count = eq-eqb (length (wait ∷ ports)) (length (widths_of shape)) (ap suc same)

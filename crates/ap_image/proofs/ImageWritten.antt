@@ -1,11 +1,10 @@
 -- The text that is written of an image that fits is without fault, and gives the image.
 use Rattle.std.proofs.Common.{◌≡◌, ℕ, ◌+◌, ◌<◌, ◌≤◌, ◌^◌, ◌≢◌, zero, suc, List, [], ◌∷◌, ◌++◌, ◌&&◌, ◌||◌, length, map, filter_map, fold, Bool, true, false, cond, nat_lt, Option, Some, None, refl, sym, ap, subst, ◌∙◌, arith, append-nil, append_assoc}
 use Rattle.std.specs.Prelude.{codes, slice_get}
-use Rattle.std.specs.Char.{digit_value, is_ascii_alphanumeric}
+use Rattle.std.specs.Char.{is_ascii_alphanumeric}
 use Rattle.std.specs.Fmt.{digits}
 use Rattle.std.specs.List.{flat_map, list_all, list_any, AllByRecursion as Each}
 use Rattle.std.specs.Str.{bytes_eq}
-use Rattle.std.specs.Str.Parse.{AllDigits}
 use Rattle.std.proofs.Math.Nat.{pow-le-pow_right}
 use Rattle.std.proofs.lemmas.Bool.{and_from, and_parts, false≢true, lt-leb, ne_eqb, or_from, or_parts}
 use Rattle.std.proofs.lemmas.Bool.Decides.{nat_tests}
@@ -28,7 +27,7 @@ use Rattle.ap_image.specs.TextFaults.{AreFine}
 use Rattle.ap_image.proofs.OneMoreLine.{begun_only, fine_begin, fine_word, given_only, part_push, silent, spoken, words_grow, words_stay}
 use Rattle.ap_image.proofs.FirstFaults.{fine_append}
 use Rattle.ap_image.proofs.PartLists.{bytes_differ, bytes_same, distinct_parts, each_map, each_weaker, found_at, name_of}
-use Rattle.ap_image.proofs.WrittenLines.{IsWhole, Spoken, is_plain, is_whole, lines_are, numbered, numbered-append, spoken_text, weaker}
+use Rattle.ap_image.proofs.WrittenLines.{IsWhole, Spoken, digits_plain, is_plain, is_whole, lines_are, numbered, numbered-append, spoken_text, weaker}
 
 -- the lines of a part, of a data memory, of all data memories and of an image
 abbrev pub word_line : ℕ → Spoken
@@ -73,15 +72,8 @@ image_spelled : (image : Image) (shape : Shape) → image_text image shape ≡ f
 image_spelled image shape = (λ j. part_spelled code_part image.code j ++ mems_spelled image.mems shape.mems j) ∙ sym (flat_map-append spoken_text (part_lines code_part image.code) (mems_lines image.mems shape.mems))
 
 -- each token is one
-digit_plain : (b : ℕ) → digit_value b < 16 → is_plain b ≡ true
-digit_plain b h = grind (arith, nat_tests)
-
-digits_plain : (bytes : List ℕ) → AllDigits 16 bytes → list_all is_plain bytes ≡ true
-digits_plain [] h = refl
-digits_plain (b ∷ bytes) h = and_from (is_plain b) (list_all is_plain bytes) (digit_plain b h.0) (digits_plain bytes h.1)
-
 word_whole : (word : ℕ) → word < 2 ^ 64 → IsWhole (word_line word)
-word_whole word small = record { first = digits_plain (digits 16 false word) (digits_is_IsNumeral 16 false (omega arith) (omega arith) word (omega arith)).0.1; rest = tt }
+word_whole word small = record { first = digits_plain 16 (digits 16 false word) (omega arith) (digits_is_IsNumeral 16 false (omega arith) (omega arith) word (omega arith)).0.1; rest = tt }
 
 letter_plain : (b : ℕ) → is_ascii_alphanumeric b ≡ true → is_plain b ≡ true
 letter_plain b h = grind (arith, nat_tests)

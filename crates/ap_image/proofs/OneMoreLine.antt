@@ -22,7 +22,7 @@ use Rattle.ap_image.specs.declared.shape.MemShape.{MemShape}
 use Rattle.ap_image.specs.FitsShape.{ImageFitsShape, MemsFit, WordsFit}
 use Rattle.ap_image.specs.ImageTexts.{begun_by, code_part, given_by, has_begun, image_fault, next_part, part_after, part_in, part_named, parts_of, place_after, says_nothing, word_in, words_at, words_from, words_of}
 use Rattle.ap_image.specs.Shapes.{IsShape, Shape}
-use Rattle.ap_image.specs.TextFaults.{IsFine, IsLeastAt, IsLineFault, number_of}
+use Rattle.ap_image.specs.TextFaults.{IsFine, IsLeastAt, IsFaultOfLine, number_of}
 use Rattle.ap_image.specs.SoFar.{IsSoFar, StandsIn}
 use Rattle.ap_image.proofs.FirstFaults.{at_least_one, fine_push}
 use Rattle.ap_image.proofs.PartLists.{at_place, at_place_some, bytes_differ, bytes_same, distinct_parts, each_at, each_change, each_push, each_weaker, found_at, map_at, map_same, name_of, named_at, part_at}
@@ -220,15 +220,15 @@ word_step shape lines line old new place word width address words is h g at is_w
 pub bad_form : (shape : Shape) (lines : List TextLine) (line : TextLine) → image_fault shape BadForm lines line ≡ true → IsLeastAt (image_fault shape) lines line BadForm
 bad_form shape lines line h = record { holds = h; least = λ other f. at_least_one other }
 
-pub nothing_fault : (shape : Shape) (lines : List TextLine) (line : TextLine) (number : ℕ) (fault : TextFault) → begun_by line ≡ None → given_by line ≡ None → line.number ≡ number → fault ≡ At number BadForm → IsLineFault (image_fault shape) lines line fault
+pub nothing_fault : (shape : Shape) (lines : List TextLine) (line : TextLine) (number : ℕ) (fault : TextFault) → begun_by line ≡ None → given_by line ≡ None → line.number ≡ number → fault ≡ At number BadForm → IsFaultOfLine (image_fault shape) lines line fault
 nothing_fault shape lines line number fault b g n e = rw e (sym n, bad_form shape lines line (rw (b, g) refl))
 
-pub stray_fault : (shape : Shape) (lines : List TextLine) (line : TextLine) (so_far : SoFar) (word number : ℕ) (fault : TextFault) → IsSoFar shape lines so_far → given_by line ≡ Some word → so_far.at ≡ None → line.number ≡ number → fault ≡ At number BadForm → IsLineFault (image_fault shape) lines line fault
+pub stray_fault : (shape : Shape) (lines : List TextLine) (line : TextLine) (so_far : SoFar) (word number : ℕ) (fault : TextFault) → IsSoFar shape lines so_far → given_by line ≡ Some word → so_far.at ≡ None → line.number ≡ number → fault ≡ At number BadForm → IsFaultOfLine (image_fault shape) lines line fault
 stray_fault shape lines line so_far word number fault h g at n e =
     let none : part_after lines ≡ None = subst (λ a. StandsIn shape a (part_after lines)) at h.stands in
     rw e (sym n, bad_form shape lines line (rw (given_only line word g, g, none) refl))
 
-pub second_fault : (shape : Shape) (lines : List TextLine) (line : TextLine) (so_far : SoFar) (place number : ℕ) (name : List ℕ) (fault : TextFault) → IsSoFar shape lines so_far → begun_by line ≡ Some name → slice_get (map name_of (parts_of shape)) place ≡ Some name → true ≡ get_or so_far.begun.items place true → line.number ≡ number → fault ≡ At number BadForm → IsLineFault (image_fault shape) lines line fault
+pub second_fault : (shape : Shape) (lines : List TextLine) (line : TextLine) (so_far : SoFar) (place number : ℕ) (name : List ℕ) (fault : TextFault) → IsSoFar shape lines so_far → begun_by line ≡ Some name → slice_get (map name_of (parts_of shape)) place ≡ Some name → true ≡ get_or so_far.begun.items place true → line.number ≡ number → fault ≡ At number BadForm → IsFaultOfLine (image_fault shape) lines line fault
 second_fault shape lines line so_far place number name fault h b at again n e =
     let found = named_at (parts_of shape) place name at in
     let begun : has_begun lines name ≡ true = subst (λ m. has_begun lines m ≡ true) found.2 (begun_at shape lines so_far place found.0 true h found.1 again) in
@@ -240,7 +240,7 @@ unknown_new parts [] name h none = refl
 unknown_new parts (n ∷ names) name h none =
     rw (bytes_differ n name (λ same. false≢true (sym (ap is_some none) ∙ subst (λ m. is_some (part_named parts m) ≡ true) same h.0))) (unknown_new parts names name h.1 none)
 
-pub unknown_fault : (shape : Shape) (lines : List TextLine) (line : TextLine) (so_far : SoFar) (number : ℕ) (name : List ℕ) (fault : TextFault) → IsSoFar shape lines so_far → begun_by line ≡ Some name → part_named (parts_of shape) name ≡ None → line.number ≡ number → fault ≡ At number NoSuchPart → IsLineFault (image_fault shape) lines line fault
+pub unknown_fault : (shape : Shape) (lines : List TextLine) (line : TextLine) (so_far : SoFar) (number : ℕ) (name : List ℕ) (fault : TextFault) → IsSoFar shape lines so_far → begun_by line ≡ Some name → part_named (parts_of shape) name ≡ None → line.number ≡ number → fault ≡ At number NoSuchPart → IsFaultOfLine (image_fault shape) lines line fault
 unknown_fault shape lines line so_far number name fault h b none n e = rw e (sym n, record { holds = rw (b, none) refl; least = least }) where
   form : image_fault shape BadForm lines line ≡ false
   form = rw (b, begun_only line name b, unknown_new (parts_of shape) (filter_map begun_by lines) name h.known none) refl
@@ -251,7 +251,7 @@ unknown_fault shape lines line so_far number name fault h b none n e = rw e (sym
   least TooManyWords f = omega arith
 
 pub wide_fault : (shape : Shape) (lines : List TextLine) (line : TextLine) (so_far : SoFar) (place word width number : ℕ) (fault : TextFault) → IsShape shape → IsSoFar shape lines so_far → given_by line ≡ Some word → so_far.at ≡ Some place
-    → width ≡ slice_index (map (λ (p : MemShape). p.width) (parts_of shape)) place → nat_lt word (2 ^ width) ≡ false → line.number ≡ number → fault ≡ At number ValueTooWide → IsLineFault (image_fault shape) lines line fault
+    → width ≡ slice_index (map (λ (p : MemShape). p.width) (parts_of shape)) place → nat_lt word (2 ^ width) ≡ false → line.number ≡ number → fault ≡ At number ValueTooWide → IsFaultOfLine (image_fault shape) lines line fault
 wide_fault shape lines line so_far place word width number fault is h g at is_width wide n e =
     let found = stands_at shape lines so_far place h at in
     let p = found.0 in
@@ -267,7 +267,7 @@ wide_fault shape lines line so_far place word width number fault is h g at is_wi
 
 pub many_fault : (shape : Shape) (lines : List TextLine) (line : TextLine) (so_far : SoFar) (place word width address number : ℕ) (words : List ℕ) (fault : TextFault) → IsShape shape → IsSoFar shape lines so_far → given_by line ≡ Some word → so_far.at ≡ Some place
     → width ≡ slice_index (map (λ (p : MemShape). p.width) (parts_of shape)) place → address ≡ slice_index (map (λ (p : MemShape). p.address) (parts_of shape)) place → words ≡ get_or so_far.words.items place words
-    → nat_lt word (2 ^ width) ≡ true → nat_lt (length words) (2 ^ address) ≡ false → line.number ≡ number → fault ≡ At number TooManyWords → IsLineFault (image_fault shape) lines line fault
+    → nat_lt word (2 ^ width) ≡ true → nat_lt (length words) (2 ^ address) ≡ false → line.number ≡ number → fault ≡ At number TooManyWords → IsFaultOfLine (image_fault shape) lines line fault
 many_fault shape lines line so_far place word width address number words fault is h g at is_width is_address is_words fits full n e =
     let found = stands_at shape lines so_far place h at in
     let p = found.0 in

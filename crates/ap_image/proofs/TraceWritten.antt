@@ -1,10 +1,9 @@
 -- The text that is written of a trace that fits is without fault, and gives the trace.
 use Rattle.std.proofs.Common.{◌≡◌, ℕ, ◌+◌, ◌<◌, ◌≤◌, ◌^◌, suc, List, [], ◌∷◌, ◌++◌, length, map, filter_map, Bool, true, false, cond, nat_lt, eqb, Some, refl, sym, ap, subst, ◌∙◌, arith, append-nil, append_assoc}
 use Rattle.std.specs.Prelude.{codes}
-use Rattle.std.specs.Char.{digit_value}
 use Rattle.std.specs.Fmt.{decimal}
 use Rattle.std.specs.List.{flat_map, list_all, AllByRecursion as Each}
-use Rattle.std.specs.Str.Parse.{AllDigits, IsNumeral}
+use Rattle.std.specs.Str.Parse.{IsNumeral}
 use Rattle.std.proofs.Math.Nat.{pow-le-pow_right}
 use Rattle.std.proofs.lemmas.Bool.{and_from, lt-ltb}
 use Rattle.std.proofs.lemmas.Bool.Decides.{nat_tests}
@@ -19,7 +18,7 @@ use Rattle.ap_image.specs.Shapes.{IsNarrow, Shape}
 use Rattle.ap_image.specs.TextFaults.{AreFine}
 use Rattle.ap_image.specs.TraceTexts.{IsCycleOf, IsTraceOf, after_space, are_within, cycle_by, cycle_text, numbers_in, trace_fault, trace_of, trace_text}
 use Rattle.ap_image.proofs.Cycles.{cycle_good, line_numbers, trace_step}
-use Rattle.ap_image.proofs.WrittenLines.{IsWhole, Spoken, is_plain, is_whole, lines_are, numbered, spoken_text}
+use Rattle.ap_image.proofs.WrittenLines.{IsWhole, Spoken, digits_plain, is_plain, is_whole, lines_are, numbered, spoken_text}
 
 -- the line of a cycle
 abbrev bit_text : Bool → List ℕ
@@ -47,19 +46,12 @@ cycles_spelled [] = refl
 cycles_spelled (cycle ∷ cycles) = (λ j. cycle_spelled cycle.wait cycle.ports j ++ cycles_spelled cycles j)
 
 -- each token is one
-digit_plain : (b : ℕ) → digit_value b < 10 → is_plain b ≡ true
-digit_plain b h = grind (arith, nat_tests)
-
-digits_plain : (bytes : List ℕ) → AllDigits 10 bytes → list_all is_plain bytes ≡ true
-digits_plain [] h = refl
-digits_plain (b ∷ bytes) h = and_from (is_plain b) (list_all is_plain bytes) (digit_plain b h.0) (digits_plain bytes h.1)
-
 numeral_token : (bytes : List ℕ) → IsNumeral 10 bytes → is_token bytes ≡ true
 numeral_token [] h = absurd (omega (arith, h.0))
 numeral_token (b ∷ bytes) h = refl
 
 decimal_whole : (n : ℕ) → n < 2 ^ 64 → is_whole (decimal n) ≡ true
-decimal_whole n small = let numeral = (decimal_is_IsNumeral n small).0 in and_from (is_token (decimal n)) (list_all is_plain (decimal n)) (numeral_token (decimal n) numeral) (digits_plain (decimal n) numeral.1)
+decimal_whole n small = let numeral = (decimal_is_IsNumeral n small).0 in and_from (is_token (decimal n)) (list_all is_plain (decimal n)) (numeral_token (decimal n) numeral) (digits_plain 10 (decimal n) (omega arith) numeral.1)
 
 ports_whole : (ports : List ℕ) → Each (λ n. n < 2 ^ 64) ports → Each (λ token. is_whole token ≡ true) (map decimal ports)
 ports_whole [] h = tt

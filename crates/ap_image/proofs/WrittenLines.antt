@@ -1,6 +1,8 @@
 -- The text of lines whose tokens have one space between them is read as these lines.
-use Rattle.std.proofs.Common.{◌≡◌, ℕ, ◌+◌, suc, List, [], ◌∷◌, ◌++◌, ◌&&◌, not, Bool, true, false, map, refl, sym, ap, ◌∙◌, arith, append-nil, append_assoc}
+use Rattle.std.proofs.Common.{◌≡◌, ℕ, ◌+◌, ◌<◌, ◌≤◌, suc, List, [], ◌∷◌, ◌++◌, ◌&&◌, not, Bool, true, false, map, refl, sym, ap, ◌∙◌, arith, append-nil, append_assoc}
 use Rattle.std.specs.Prelude.{filter, nat_le, ◌==◌}
+use Rattle.std.specs.Char.{digit_value}
+use Rattle.std.specs.Str.Parse.{AllDigits}
 use Rattle.std.specs.List.{list_all, slice_split, onto_first, before_first, position_or_len, flat_map, AllByRecursion as Each}
 use Rattle.std.proofs.lemmas.Bool.{and_from, and_parts, not-true}
 use Rattle.std.proofs.lemmas.Bool.Decides.{nat_tests}
@@ -41,6 +43,14 @@ numbered n (line ∷ lines) = record { number = n; tokens = line.first ∷ line.
 pub weaker : (p q : ℕ → Bool) → ((b : ℕ) → p b ≡ true → q b ≡ true) → (bytes : List ℕ) → list_all p bytes ≡ true → list_all q bytes ≡ true
 weaker p q w [] h = refl
 weaker p q w (b ∷ bytes) h = let both = and_parts (p b) (list_all p bytes) h in and_from (q b) (list_all q bytes) (w b both.0) (weaker p q w bytes both.1)
+
+-- digits of a base up to 16 are plain
+digit_plain : (b : ℕ) → digit_value b < 16 → is_plain b ≡ true
+digit_plain b h = grind (arith, nat_tests)
+
+pub digits_plain : (base : ℕ) (bytes : List ℕ) → base ≤ 16 → AllDigits base bytes → list_all is_plain bytes ≡ true
+digits_plain base [] le h = refl
+digits_plain base (b ∷ bytes) le h = and_from (is_plain b) (list_all is_plain bytes) (digit_plain b (omega (arith, h.0))) (digits_plain base bytes le h.1)
 
 plain_unblank : (b : ℕ) → is_plain b ≡ true → not (is_blank b) ≡ true
 plain_unblank b h = grind (arith, nat_tests)

@@ -35,17 +35,17 @@ IsFine judge before line = (kind : TextKind) → judge kind before line ≡ fals
 
 -- a fault holds at the line of this number, among lines that stand after some: at the first of them; or that one is fine,
 -- and it holds among the others. So lines after the first faulty one aren't looked at
-abbrev pub HasFaultAmong : Judge → List TextLine → List TextLine → TextKind → ℕ → Type 0
-HasFaultAmong judge before [] kind number = ⊥
-HasFaultAmong judge before (line ∷ lines) kind number =
+abbrev pub HasTextFaultAmong : Judge → List TextLine → List TextLine → TextKind → ℕ → Type 0
+HasTextFaultAmong judge before [] kind number = ⊥
+HasTextFaultAmong judge before (line ∷ lines) kind number =
     ((line.number ≡ number) × IsTrue (judge kind before line))
-    ⊎ (IsFine judge before line × HasFaultAmong judge (before ++ line ∷ []) lines kind number)
+    ⊎ (IsFine judge before line × HasTextFaultAmong judge (before ++ line ∷ []) lines kind number)
 
 -- a fault holds at the line of this number; line 0 is the text as a whole. A text that is too long has no other fault
 abbrev pub HasTextFault : Judge → List ℕ → TextKind → ℕ → Type 0
 HasTextFault judge text kind number = MatchBool (nat_lt text_limit (length text))
     ((kind ≡ BadForm) × (number ≡ 0))
-    (HasFaultAmong judge [] (lines_of text) kind number)
+    (HasTextFaultAmong judge [] (lines_of text) kind number)
 
 -- the text has no fault
 abbrev pub IsFaultlessText : Judge → List ℕ → Type 0
@@ -63,9 +63,9 @@ IsTextFault judge text (At line kind) = IsLeastOf (HasTextFault judge text) kind
 IsTextFault judge text NoMemory = Unit {0}
 
 -- the same of lines alone
-abbrev pub IsLinesFault : Judge → List TextLine → TextFault → Type 0
-IsLinesFault judge lines (At line kind) = IsLeastOf (HasFaultAmong judge [] lines) kind line
-IsLinesFault judge lines NoMemory = Unit {0}
+abbrev pub IsFaultOfLines : Judge → List TextLine → TextFault → Type 0
+IsFaultOfLines judge lines (At line kind) = IsLeastOf (HasTextFaultAmong judge [] lines) kind line
+IsFaultOfLines judge lines NoMemory = Unit {0}
 
 -- this is the least kind that holds of the line after these
 pub record IsLeastAt (judge : Judge) (before : List TextLine) (line : TextLine) (kind : TextKind) : Type 0 where
@@ -73,9 +73,9 @@ pub record IsLeastAt (judge : Judge) (before : List TextLine) (line : TextLine) 
   pub least : (other : TextKind) → IsTrue (judge other before line) → number_of kind ≤ number_of other
 
 -- why a line after these was refused: this is its least fault, or memory ran out
-abbrev pub IsLineFault : Judge → List TextLine → TextLine → TextFault → Type 0
-IsLineFault judge before line (At number kind) = (number ≡ line.number) × IsLeastAt judge before line kind
-IsLineFault judge before line NoMemory = Unit {0}
+abbrev pub IsFaultOfLine : Judge → List TextLine → TextLine → TextFault → Type 0
+IsFaultOfLine judge before line (At number kind) = (number ≡ line.number) × IsLeastAt judge before line kind
+IsFaultOfLine judge before line NoMemory = Unit {0}
 
 -- every one of these lines is fine
 abbrev pub AreFine : Judge → List TextLine → List TextLine → Type 0

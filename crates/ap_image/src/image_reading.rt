@@ -11,7 +11,7 @@ ghost use Rattle.ap_image.specs.ImageTexts.{begun_by, given_by, image_fault, ima
 ghost use Rattle.ap_image.specs.ImageTexts.{IsImageOrMemory};
 ghost use Rattle.ap_image.specs.Shapes.{IsNarrow};
 ghost use Rattle.ap_image.specs.TextFaults.{IsFaultlessText, IsTextFault, text_limit};
-ghost use Rattle.ap_image.specs.TextFaults.{IsLineFault, IsLinesFault};
+ghost use Rattle.ap_image.specs.TextFaults.{IsFaultOfLine, IsFaultOfLines};
 ghost use Rattle.ap_image.specs.declared.image.Image.{Image as DeclaredImage};
 ghost use Rattle.ap_image.specs.declared.shape.MemShape.{MemShape as DeclaredMem};
 
@@ -65,7 +65,7 @@ fn begin_part(
         → IsSoFar shape.now (before ++ line ∷ []) so_far.new) }
     ensures err { IfErr result (λ fault. (before : List TextLine) (line : TextLine)
         → IsSoFar shape.now before so_far.old → begun_by line ≡ Some name.now → line.number ≡ number
-        → IsLineFault (image_fault shape.now) before line fault) }
+        → IsFaultOfLine (image_fault shape.now) before line fault) }
 {
     shape.rules();
     let Some(place) = place_of(shape, name) else {
@@ -86,7 +86,7 @@ fn add_word(so_far: &mut SoFar, shape: &Shape, word: u64, number: u32) -> Result
         → IsSoFar shape.now (before ++ line ∷ []) so_far.new) }
     ensures err { IfErr result (λ fault. (before : List TextLine) (line : TextLine)
         → IsSoFar shape.now before so_far.old → given_by line ≡ Some word → line.number ≡ number
-        → IsLineFault (image_fault shape.now) before line fault) }
+        → IsFaultOfLine (image_fault shape.now) before line fault) }
 {
     shape.rules();
     let Some(place) = so_far.at else {
@@ -115,7 +115,7 @@ fn read_line(
         → IsSoFar shape.now (before ++ line_in text.now line.now ∷ []) so_far.new) }
     ensures err { IfErr result (λ fault. (before : List TextLine)
         → IsSoFar shape.now before so_far.old
-        → IsLineFault (image_fault shape.now) before (line_in text.now line.now) fault) }
+        → IsFaultOfLine (image_fault shape.now) before (line_in text.now line.now) fault) }
 {
     if let Some(name) = begun(text, line) {
         return begin_part(so_far, shape, name, line.number);
@@ -136,7 +136,7 @@ fn read_lines(
     requires { AreLinesWithin text.now lines.now }
     ensures ok { IfOk result (IsSoFar shape.now (map (line_in text.now) lines.now)) }
     ensures err { IfErr result
-        (IsLinesFault (image_fault shape.now) (map (line_in text.now) lines.now)) }
+        (IsFaultOfLines (image_fault shape.now) (map (line_in text.now) lines.now)) }
 {
     let mut so_far = SoFar::start(alloc, shape)?;
     for line in lines {

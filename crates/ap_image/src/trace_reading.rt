@@ -5,7 +5,7 @@ ghost use Rattle.ap_text.specs.Spans.{AreLinesWithin, IsLineWithin, IsWithin, by
 ghost use Rattle.ap_image.specs.FitsShape.{TraceFitsShape};
 ghost use Rattle.ap_image.specs.Shapes.{IsNarrow};
 ghost use Rattle.ap_image.specs.TextFaults.{IsFaultlessText, IsTextFault, text_limit};
-ghost use Rattle.ap_image.specs.TextFaults.{IsLineFault, IsLinesFault};
+ghost use Rattle.ap_image.specs.TextFaults.{IsFaultOfLine, IsFaultOfLines};
 ghost use Rattle.ap_image.specs.TraceTexts.{IsCycleOf, IsTraceOf, IsTraceOrMemory};
 ghost use Rattle.ap_image.specs.TraceTexts.{are_within, numbers_in, trace_fault, trace_of, trace_text};
 ghost use Rattle.ap_image.specs.declared.trace.Trace.{Trace as DeclaredTrace};
@@ -57,7 +57,7 @@ fn read_cycle(
     requires { IsLineWithin text.now line.now }
     ensures ok { IfOk result (IsCycleOf shape.now (line_in text.now line.now)) }
     ensures err { IfErr result (λ fault. (before : List TextLine)
-        → IsLineFault (trace_fault shape.now) before (line_in text.now line.now) fault) }
+        → IsFaultOfLine (trace_fault shape.now) before (line_in text.now line.now) fault) }
 {
     let [wait, ports @ ..] = line.tokens.as_slice() else {
         return Err(at(line.number, TextKind::BadForm));
@@ -90,7 +90,7 @@ fn read_cycles(
     requires { AreLinesWithin text.now lines.now }
     ensures ok { IfOk result (IsTraceOf shape.now (map (line_in text.now) lines.now)) }
     ensures err { IfErr result
-        (IsLinesFault (trace_fault shape.now) (map (line_in text.now) lines.now)) }
+        (IsFaultOfLines (trace_fault shape.now) (map (line_in text.now) lines.now)) }
 {
     let mut cycles = Items::new(alloc);
     for line in lines {
