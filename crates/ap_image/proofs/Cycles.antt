@@ -86,8 +86,10 @@ cycle_good shape line wait ports e same low within = record {
 } where
   count : eqb (length (wait ∷ ports)) (length (widths_of shape)) ≡ true
   count = eq-eqb (length (wait ∷ ports)) (length (widths_of shape)) (ap suc same)
+
   bit : nat_lt wait 2 ≡ true
   bit = lt-ltb wait 2 (omega arith)
+
   fine : (kind : TextKind) (before : List TextLine) → trace_fault shape kind before line ≡ false
   fine BadForm before = rw (e, count) refl
   fine NoSuchPart before = refl
@@ -128,6 +130,7 @@ count_fault shape line number fault differ n e = form_fault shape line number fa
   counted : (o : Option (List ℕ)) → ((ns : List ℕ) → o ≡ Some ns → length ns ≡ length line.tokens) → not (option_map_or (λ (ns : List ℕ). eqb (length ns) (length (widths_of shape))) o false) ≡ true
   counted None h = refl
   counted (Some ns) h = let count : eqb (length ns) (length (widths_of shape)) ≡ false = ne_eqb (length ns) (length (widths_of shape)) (λ same. differ (sym (h ns refl) ∙ same)) in rw count refl
+
   by_case : (b : Bool) → not (option_map_or (λ (ns : List ℕ). eqb (length ns) (length (widths_of shape))) (cond b (numbers_in line.tokens) None) false) ≡ true
   by_case true = counted (numbers_in line.tokens) (λ ns f. length-numbers_in line.tokens ns f)
   by_case false = refl
@@ -137,8 +140,10 @@ pub wide_fault : (shape : Shape) (line : TextLine) (wait : ℕ) (ports : List �
 wide_fault shape line wait ports number fault e same wide n f before = rw f (sym n, record { holds = rw (e, wide) refl; least = least }) where
   count : eqb (length (wait ∷ ports)) (length (widths_of shape)) ≡ true
   count = eq-eqb (length (wait ∷ ports)) (length (widths_of shape)) (ap suc same)
+
   form : trace_fault shape BadForm before line ≡ false
   form = rw (e, count) refl
+
   least : (other : TextKind) → trace_fault shape other before line ≡ true → 3 ≤ number_of other
   least BadForm g = absurd (false≢true (sym form ∙ g))
   least NoSuchPart g = absurd (false≢true g)
@@ -180,9 +185,10 @@ line_tokens text line s d e h = ap (map (bytes_in text)) (sym e) ∙ tokens_firs
 -- what a line's tokens are, read one by one
 pub the_numbers : (text : List ℕ) (line : Line) (s : List Span) (d : Span) (first : List ℕ) (wait : ℕ) (ports : List ℕ) (found : Option (List ℕ)) → s ≡ line.tokens → 1 ≤ length s → line.clean ≡ true → first ≡ bytes_in text (get_or s 0 d) → number_value first ≡ Some wait
     → found ≡ numbers_in (map (bytes_in text) (take (length s - 1) (drop 1 s))) → found ≡ Some ports → (numbers_by (line_in text line) ≡ Some (wait ∷ ports)) × (length ports ≡ length (take (length s - 1) (drop 1 s)))
-the_numbers text line s d first wait ports found e h clean is one more all =
-    (line_numbers (line_in text line) (bytes_in text (get_or s 0 d)) _ wait ports clean (line_tokens text line s d e h) (ap number_value (sym is) ∙ one) (sym more ∙ all),
-    length-numbers_in _ ports (sym more ∙ all) ∙ simp length-map)
+the_numbers text line s d first wait ports found e h clean is one more all = (
+  line_numbers (line_in text line) (bytes_in text (get_or s 0 d)) _ wait ports clean (line_tokens text line s d e h) (ap number_value (sym is) ∙ one) (sym more ∙ all),
+  length-numbers_in _ ports (sym more ∙ all) ∙ simp length-map,
+)
 
 pub within_same : (a b ports inputs : List ℕ) (r v : Bool) → a ≡ ports → b ≡ inputs → r ≡ are_within a b → r ≡ v → are_within ports inputs ≡ v
 within_same a b ports inputs r v e g h is = (λ j. are_within (sym e j) (sym g j)) ∙ sym h ∙ is

@@ -94,6 +94,7 @@ too_long judge text long = record {
 } where
   is_long : nat_lt text_limit (length text) ≡ true
   is_long = lt-ltb text_limit (length text) long
+
   at_least : (other : TextKind) → other ≡ BadForm → 1 ≤ number_of other
   at_least other e = subst (λ k. 1 ≤ number_of k) (sym e) (omega arith)
 

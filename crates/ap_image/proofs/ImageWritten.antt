@@ -151,6 +151,7 @@ words_taken n q name (w ∷ words) h =
     ∙ either (bytes_eq name q) where
       stays : next_part (Some name) (the_line n (word_line w)) ≡ Some name
       stays = rw (given_only (the_line n (word_line w)) w (word_given n w h.0)) refl
+
       either : (b : Bool) → cond b (w ∷ []) [] ++ cond b words [] ≡ cond b (w ∷ words) []
       either true = refl
       either false = refl
@@ -209,10 +210,10 @@ mems_taken n part ((w ∷ words) ∷ mems) (m ∷ shapes) fit names narrow apart
     let next = numbered-append n (part_lines m.name (w ∷ words)) (mems_lines mems shapes) in
     let small = narrow_words m.width (w ∷ words) narrow.0 fit.0.each in
     let own : words_from m.name part (numbered n (part_lines m.name (w ∷ words) ++ mems_lines mems shapes)) ≡ w ∷ words =
-        ap (words_from m.name part) next.1 ∙ block_and n next.0 m.name part m.name (w ∷ words) (mems_lines mems shapes) names.0 small
-        ∙ rw (bytes_same m.name m.name refl) (ap (λ rest. w ∷ (words ++ rest)) (others_silent next.0 m.name (Some m.name) mems shapes fit.1 names.1 narrow.1 apart.0) ∙ append-nil (w ∷ words)) in
+    ap (words_from m.name part) next.1 ∙ block_and n next.0 m.name part m.name (w ∷ words) (mems_lines mems shapes) names.0 small
+    ∙ rw (bytes_same m.name m.name refl) (ap (λ rest. w ∷ (words ++ rest)) (others_silent next.0 m.name (Some m.name) mems shapes fit.1 names.1 narrow.1 apart.0) ∙ append-nil (w ∷ words)) in
     let others : map (λ (q : MemShape). words_from q.name part (numbered n (part_lines m.name (w ∷ words) ++ mems_lines mems shapes))) shapes ≡ map (λ (q : MemShape). words_from q.name (Some m.name) (numbered next.0 (mems_lines mems shapes))) shapes =
-        map_each _ _ shapes (each_weaker _ _ (λ (q : MemShape) differ. ap (words_from q.name part) next.1 ∙ block_and n next.0 q.name part m.name (w ∷ words) (mems_lines mems shapes) names.0 small ∙ rw (bytes_differ m.name q.name (λ same. differ (sym same))) refl) shapes (each_unmap (λ other. other ≢ m.name) name_of shapes apart.0)) in
+    map_each _ _ shapes (each_weaker _ _ (λ (q : MemShape) differ. ap (words_from q.name part) next.1 ∙ block_and n next.0 q.name part m.name (w ∷ words) (mems_lines mems shapes) names.0 small ∙ rw (bytes_differ m.name q.name (λ same. differ (sym same))) refl) shapes (each_unmap (λ other. other ≢ m.name) name_of shapes apart.0)) in
     (λ j. own j ∷ (others ∙ mems_taken next.0 (Some m.name) mems shapes fit.1 names.1 narrow.1 apart.1) j)
 
 -- the lines of an image are without fault
@@ -228,6 +229,7 @@ unbegun name part (line ∷ lines) other none = by_case (begun_by line) refl (λ
   nothing : (p : Option (List ℕ)) → (p ≡ Some name → ⊥) → words_at name p line ≡ []
   nothing None differ = refl
   nothing (Some q) differ = rw (bytes_differ q name (λ same. differ (ap Some same))) refl
+
   by_case : (o : Option (List ℕ)) → begun_by line ≡ o → ((p : Option (List ℕ)) → (p ≡ Some name → ⊥) → has_begun lines name ≡ false → words_from name p lines ≡ []) → words_from name part (line ∷ lines) ≡ []
   by_case None e more =
       let rest = rw e at none in
@@ -260,9 +262,10 @@ words_fine shape p n before (w ∷ words) at there fit small =
     let more : length (w ∷ words) ≡ suc (length words) = refl in
     let free : length done < 2 ^ p.address = omega arith in
     let grown : words_of p.name (before ++ line ∷ []) ≡ done ++ w ∷ [] = words_grow p.name p.name before line w g at ∙ rw (bytes_same p.name p.name refl) refl in
-    let rest : done ++ w ∷ words ≡ words_of p.name (before ++ line ∷ []) ++ words = sym (append_assoc done (w ∷ []) words) ∙ ap (λ l. l ++ words) (sym grown) in
-    (fine_word shape before line p w b g at there (lt-leb (2 ^ p.width) w narrow) (ne_eqb (length done) (2 ^ p.address) (λ e. let wrong : ⊥ = omega arith in wrong)),
-    words_fine shape p (n + 1) (before ++ line ∷ []) words (part_push before line ∙ rw b at) there (subst (λ l. WordsFit l p.address p.width) rest fit) small.1)
+    let rest : done ++ w ∷ words ≡ words_of p.name (before ++ line ∷ []) ++ words = sym (append_assoc done (w ∷ []) words) ∙ ap (λ l. l ++ words) (sym grown) in (
+      fine_word shape before line p w b g at there (lt-leb (2 ^ p.width) w narrow) (ne_eqb (length done) (2 ^ p.address) (λ e. let wrong : ⊥ = omega arith in wrong)),
+      words_fine shape p (n + 1) (before ++ line ∷ []) words (part_push before line ∙ rw b at) there (subst (λ l. WordsFit l p.address p.width) rest fit) small.1,
+    )
 
 -- and so is a part that hasn't begun
 block_fine : (shape : Shape) (p : MemShape) (n : ℕ) (before : List TextLine) (words : List ℕ) → IsName p.name → part_named (parts_of shape) p.name ≡ Some p → has_begun before p.name ≡ false → WordsFit words p.address p.width → Each (λ w. w < 2 ^ 64) words → AreFine (image_fault shape) before (numbered n (part_lines p.name words))
@@ -270,9 +273,10 @@ block_fine shape p n before words is there new fit small =
     let line = the_line n (part_line p.name) in
     let b = part_begins n p.name is in
     let g = begun_only line p.name b in
-    let none : words_of p.name (before ++ line ∷ []) ≡ [] = words_stay p.name before line g ∙ unbegun p.name None before (λ e. none-some p.name e) new in
-    (fine_begin shape before line p b g new there,
-    words_fine shape p (n + 1) (before ++ line ∷ []) words (part_push before line ∙ rw b refl) there (subst (λ l. WordsFit (l ++ words) p.address p.width) (sym none) fit) small)
+    let none : words_of p.name (before ++ line ∷ []) ≡ [] = words_stay p.name before line g ∙ unbegun p.name None before (λ e. none-some p.name e) new in (
+      fine_begin shape before line p b g new there,
+      words_fine shape p (n + 1) (before ++ line ∷ []) words (part_push before line ∙ rw b refl) there (subst (λ l. WordsFit (l ++ words) p.address p.width) (sym none) fit) small,
+    )
 
 block_begun : (n : ℕ) (q name words : List ℕ) → IsName name → Each (λ w. w < 2 ^ 64) words → q ≢ name → has_begun (numbered n (part_lines name words)) q ≡ false
 block_begun n q name words is small differ = ap (list_any (λ begun. bytes_eq begun q)) (block_begins n name words is small) ∙ rw (bytes_differ name q (λ same. differ (sym same))) refl
@@ -288,7 +292,7 @@ mems_fine shape n before ((w ∷ words) ∷ mems) (m ∷ shapes) fit names narro
     let small = narrow_words m.width (w ∷ words) narrow.0 fit.0.each in
     let block = numbered n (part_lines m.name (w ∷ words)) in
     let still : Each (λ (q : MemShape). has_begun (before ++ block) q.name ≡ false) shapes = each_both (λ (q : MemShape). q.name ≢ m.name) (λ (q : MemShape). has_begun before q.name ≡ false) _
-        (λ (q : MemShape) differ none. begun_append before block q.name ∙ or_from (has_begun before q.name) (has_begun block q.name) none (block_begun n q.name m.name (w ∷ words) names.0 small differ)) shapes (each_unmap (λ other. other ≢ m.name) name_of shapes apart.0) new.1 in
+    (λ (q : MemShape) differ none. begun_append before block q.name ∙ or_from (has_begun before q.name) (has_begun block q.name) none (block_begun n q.name m.name (w ∷ words) names.0 small differ)) shapes (each_unmap (λ other. other ≢ m.name) name_of shapes apart.0) new.1 in
     subst (λ (l : List TextLine). AreFine (image_fault shape) before l) (sym next.1)
     (fine_append (image_fault shape) before block (numbered next.0 (mems_lines mems shapes)) (block_fine shape m n before (w ∷ words) names.0 there.0 new.0 fit.0 small) (mems_fine shape next.0 (before ++ block) mems shapes fit.1 names.1 narrow.1 apart.1 there.1 still))
 
@@ -302,26 +306,34 @@ pub image_written : (shape : Shape) (image : Image) (text : List ℕ) → IsShap
 image_written shape image text is names narrow fit e = (subst (λ (l : List TextLine). AreFine (image_fault shape) [] l) (sym lines) fine, ap (image_of shape) lines ∙ same) where
   small : Each (λ w. w < 2 ^ 64) image.code
   small = narrow_words shape.code_width image.code narrow.code fit.code.each
+
   lines : lines_of text ≡ numbered 1 (image_lines image shape)
   lines = lines_are text (image_lines image shape) (e ∙ image_spelled image shape)
       (each_append IsWhole (part_lines code_part image.code) (mems_lines image.mems shape.mems) (part_whole code_part refl, words_whole image.code small) (mems_whole image.mems shape.mems fit.mems names narrow.mems))
+
   next : (m : ℕ) × (numbered 1 (image_lines image shape) ≡ numbered 1 (part_lines code_part image.code) ++ numbered m (mems_lines image.mems shape.mems))
   next = numbered-append 1 (part_lines code_part image.code) (mems_lines image.mems shape.mems)
+
   distinct : AreDistinct (map name_of (parts_of shape))
   distinct = distinct_parts shape is
+
   there : Each (λ (p : MemShape). part_named (parts_of shape) p.name ≡ Some p) (parts_of shape)
   there = each_from_get _ (parts_of shape) (λ i p h. found_at (parts_of shape) i p distinct h)
+
   fine : AreFine (image_fault shape) [] (numbered 1 (image_lines image shape))
   fine = subst (λ (l : List TextLine). AreFine (image_fault shape) [] l) (sym next.1)
       (fine_append (image_fault shape) [] (numbered 1 (part_lines code_part image.code)) (numbered next.0 (mems_lines image.mems shape.mems))
       (block_fine shape (record { name = code_part; address = shape.code_address; width = shape.code_width }) 1 [] image.code refl there.0 refl fit.code small)
       (mems_fine shape next.0 (numbered 1 (part_lines code_part image.code)) image.mems shape.mems fit.mems names narrow.mems is.distinct there.1
       (each_weaker (λ (m : MemShape). m.name ≢ code_part) _ (λ (m : MemShape) differ. block_begun 1 m.name code_part image.code refl small differ) shape.mems is.apart)))
+
   code : words_of code_part (numbered 1 (image_lines image shape)) ≡ image.code
   code = ap (words_of code_part) next.1 ∙ block_and 1 next.0 code_part None code_part image.code (mems_lines image.mems shape.mems) refl small
       ∙ ap (λ rest. image.code ++ rest) (others_silent next.0 code_part (Some code_part) image.mems shape.mems fit.mems names narrow.mems (each_map (λ other. other ≢ code_part) name_of shape.mems is.apart)) ∙ append-nil image.code
+
   mems : map (λ (m : MemShape). words_of m.name (numbered 1 (image_lines image shape))) shape.mems ≡ image.mems
   mems = map_each _ _ shape.mems (each_weaker (λ (m : MemShape). m.name ≢ code_part) _ (λ (m : MemShape) differ. ap (words_of m.name) next.1 ∙ block_and 1 next.0 m.name None code_part image.code (mems_lines image.mems shape.mems) refl small ∙ rw (bytes_differ code_part m.name (λ same. differ (sym same))) refl) shape.mems is.apart)
       ∙ mems_taken next.0 (Some code_part) image.mems shape.mems fit.mems names narrow.mems is.distinct
+
   same : image_of shape (numbered 1 (image_lines image shape)) ≡ image
   same = (λ j. record { code = code j; mems = mems j })

@@ -163,7 +163,7 @@ begin_step shape lines line old new place name is h b e first begun words at =
     let next : part_after (lines ++ line ∷ []) ≡ Some name = part_push lines line ∙ rw b refl in
     record {
       begun = begun ∙ ap (λ l. slice_set l place true) h.begun
-        ∙ sym (map_same _ _ (λ (q : MemShape). begun_more q.name p.name lines line bp) (parts_of shape) ∙ map_at (λ (q : MemShape). has_begun lines q.name) (λ (q : MemShape). true) (parts_of shape) place p apart found.1);
+          ∙ sym (map_same _ _ (λ (q : MemShape). begun_more q.name p.name lines line bp) (parts_of shape) ∙ map_at (λ (q : MemShape). has_begun lines q.name) (λ (q : MemShape). true) (parts_of shape) place p apart found.1);
       words = words ∙ h.words ∙ sym (map_same _ _ (λ (q : MemShape). words_stay q.name lines line g) (parts_of shape));
       stands = subst (λ a. StandsIn shape a (part_after (lines ++ line ∷ []))) (sym at) (found.3, e ∙ sym next);
       fits = each_weaker _ _ (λ (q : MemShape) f. subst (λ ws. WordsFit ws q.address q.width) (sym (words_stay q.name lines line g)) f) (parts_of shape) h.fits;
@@ -204,12 +204,12 @@ word_step shape lines line old new place word width address words is h g at is_w
     record {
       begun = begun ∙ h.begun ∙ sym (map_same _ _ (λ (q : MemShape). begun_stays q.name lines line b) (parts_of shape));
       words = grown ∙ ap (λ l. slice_set l place (words ++ word ∷ [])) h.words ∙ ap (λ ws. slice_set (map (λ (q : MemShape). words_of q.name lines) (parts_of shape)) place (ws ++ word ∷ [])) (sym mine)
-        ∙ sym (map_same _ _ grow (parts_of shape) ∙ map_at (λ (q : MemShape). words_of q.name lines) (λ (q : MemShape). words_of q.name lines ++ word ∷ []) (parts_of shape) place p apart found.1);
+          ∙ sym (map_same _ _ grow (parts_of shape) ∙ map_at (λ (q : MemShape). words_of q.name lines) (λ (q : MemShape). words_of q.name lines ++ word ∷ []) (parts_of shape) place p apart found.1);
       stands = subst (λ x. StandsIn shape x (part_after (lines ++ line ∷ []))) (sym same) (subst (λ part. StandsIn shape old.at part) (sym (part_push lines line ∙ rw b refl)) h.stands);
       fits = each_change (λ (q : MemShape). WordsFit (words_of q.name lines) q.address q.width) (λ (q : MemShape). WordsFit (words_of q.name (lines ++ line ∷ [])) q.address q.width) (parts_of shape) place p apart found.1
-        (subst (λ ws. WordsFit ws p.address p.width) (sym (grow p ∙ rw (bytes_same p.name p.name refl) refl)) (fit_more (words_of p.name lines) word p.address p.width (each_fit p found.1) narrow free))
-        (λ q other f. subst (λ ws. WordsFit ws q.address q.width) (sym (grow q ∙ rw other refl)) f)
-        h.fits;
+          (subst (λ ws. WordsFit ws p.address p.width) (sym (grow p ∙ rw (bytes_same p.name p.name refl) refl)) (fit_more (words_of p.name lines) word p.address p.width (each_fit p found.1) narrow free))
+          (λ q other f. subst (λ ws. WordsFit ws q.address q.width) (sym (grow q ∙ rw other refl)) f)
+          h.fits;
       known = subst (Each (λ n. is_some (part_named (parts_of shape) n) ≡ true)) (sym (names_stay lines line b)) h.known;
       fine = fine_push (image_fault shape) [] lines line h.fine (fine_word shape lines line p word b g found.2 there (lt-leb (2 ^ p.width) word narrow) (ne_eqb (length (words_of p.name lines)) (2 ^ p.address) (λ e. let wrong : ⊥ = omega arith in wrong)));
     } where
@@ -244,6 +244,7 @@ pub unknown_fault : (shape : Shape) (lines : List TextLine) (line : TextLine) (s
 unknown_fault shape lines line so_far number name fault h b none n e = rw e (sym n, record { holds = rw (b, none) refl; least = least }) where
   form : image_fault shape BadForm lines line ≡ false
   form = rw (b, begun_only line name b, unknown_new (parts_of shape) (filter_map begun_by lines) name h.known none) refl
+
   least : (other : TextKind) → image_fault shape other lines line ≡ true → 2 ≤ number_of other
   least BadForm f = absurd (false≢true (sym form ∙ f))
   least NoSuchPart f = omega arith

@@ -118,6 +118,7 @@ lines_read shape n before done (c ∷ cycles) narrow fit h =
 pub trace_written : (shape : Shape) (trace : Trace) (text : List ℕ) → IsNarrow shape → TraceFitsShape trace shape → text ≡ trace_text trace → AreFine (trace_fault shape) [] (lines_of text) × (trace_of (lines_of text) ≡ trace)
 trace_written shape trace text narrow fit e =
     let lines = lines_are text (map cycle_line trace.lines) (e ∙ cycles_spelled trace.lines) (cycles_whole shape trace.lines narrow fit) in
-    let read = lines_read shape 1 [] [] trace.lines narrow fit (record { gives = refl; fine = tt; fits = tt }) in
-    (subst (λ (l : List TextLine). AreFine (trace_fault shape) [] l) (sym lines) read.fine,
-    ap trace_of lines ∙ (λ j. record { lines = sym read.gives j }))
+    let read = lines_read shape 1 [] [] trace.lines narrow fit (record { gives = refl; fine = tt; fits = tt }) in (
+      subst (λ (l : List TextLine). AreFine (trace_fault shape) [] l) (sym lines) read.fine,
+      ap trace_of lines ∙ (λ j. record { lines = sym read.gives j }),
+    )

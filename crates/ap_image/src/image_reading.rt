@@ -15,10 +15,10 @@ ghost use Rattle.ap_image.specs.TextFaults.{IsFaultOfLine, IsFaultOfLines};
 ghost use Rattle.ap_image.specs.declared.image.Image.{Image as DeclaredImage};
 ghost use Rattle.ap_image.specs.declared.shape.MemShape.{MemShape as DeclaredMem};
 
-use crate::so_far::{SoFar, address_at, has_bits, place_of, width_at};
 use crate::fault::{TEXT_LIMIT, TextFault, TextKind, at};
 use crate::image::Image;
 use crate::shape::{MemShape, Shape};
+use crate::so_far::{SoFar, address_at, has_bits, place_of, width_at};
 use ap_bits::{Items, NoMemory, is_name};
 use ap_text::{Line, lines, number};
 use std::alloc::Global;
@@ -53,12 +53,7 @@ fn given(text: &[u8], line: &Line) -> Option<u64>
 }
 
 /// Begins the part of this name, in the line of this number.
-fn begin_part(
-    so_far: &mut SoFar,
-    shape: &Shape,
-    name: &[u8],
-    number: u32,
-) -> Result<(), TextFault>
+fn begin_part(so_far: &mut SoFar, shape: &Shape, name: &[u8], number: u32) -> Result<(), TextFault>
     requires { IsReachable shape.now so_far.old }
     ensures ok { OnOk result ((before : List TextLine) (line : TextLine)
         → IsSoFar shape.now before so_far.old → begun_by line ≡ Some name.now
@@ -103,12 +98,7 @@ fn add_word(so_far: &mut SoFar, shape: &Shape, word: u64, number: u32) -> Result
 }
 
 /// Reads one more line.
-fn read_line(
-    so_far: &mut SoFar,
-    shape: &Shape,
-    text: &[u8],
-    line: &Line,
-) -> Result<(), TextFault>
+fn read_line(so_far: &mut SoFar, shape: &Shape, text: &[u8], line: &Line) -> Result<(), TextFault>
     requires within { IsLineWithin text.now line.now }
     requires so_far { IsReachable shape.now so_far.old }
     ensures ok { OnOk result ((before : List TextLine) → IsSoFar shape.now before so_far.old
@@ -127,12 +117,7 @@ fn read_line(
 }
 
 /// Reads lines, or gives the fault of the first that has one.
-fn read_lines(
-    alloc: Global,
-    shape: &Shape,
-    text: &[u8],
-    lines: &[Line],
-) -> Result<SoFar, TextFault>
+fn read_lines(alloc: Global, shape: &Shape, text: &[u8], lines: &[Line]) -> Result<SoFar, TextFault>
     requires { AreLinesWithin text.now lines.now }
     ensures ok { IfOk result (IsSoFar shape.now (map (line_in text.now) lines.now)) }
     ensures err { IfErr result

@@ -2,8 +2,10 @@
 ghost use Rattle.std.specs.Prelude.{◌≡◌, IfOk};
 ghost use Rattle.ap_image.specs.Rows.{small};
 
-use crate::{Image, MemShape, Shape, TextFault, TextKind, Trace, TraceLine};
-use crate::{read_image, read_trace, write_image, write_trace};
+use crate::{
+    Image, MemShape, Shape, TextFault, TextKind, Trace, TraceLine, read_image, read_trace,
+    write_image, write_trace,
+};
 use ap_bits::{Items, Name, NoMemory};
 use std::alloc::Global;
 use std::process::Abort;
@@ -121,7 +123,11 @@ fn images_that_do_not_fit() -> [FaultRow<'static>; 9] {
         ("part Code\n", 1, TextKind::NoSuchPart),
         ("part code\npart reg\n5000\n", 2, TextKind::NoSuchPart),
         ("part code\n256\n", 2, TextKind::ValueTooWide),
-        ("part code\n255\n\n18446744073709551615\n", 4, TextKind::ValueTooWide),
+        (
+            "part code\n255\n\n18446744073709551615\n",
+            4,
+            TextKind::ValueTooWide,
+        ),
         ("part M\n4\npart 1x\n", 2, TextKind::ValueTooWide),
         ("part M\n0\n0\n0\n", 4, TextKind::TooManyWords),
         ("part M\n0\n0\n4\n", 4, TextKind::ValueTooWide),
@@ -158,7 +164,10 @@ fn reads_traces(rt: HostRuntime) -> Result<(), Fail> {
     let rows: [TraceRow; 3] = [
         ("# nothing\n\n", &[]),
         ("0 5 1\n1 7 0", &[(false, 5, 1), (true, 7, 0)]),
-        ("\t0x1  007\t0x0 # first\n\n0 0 1\n", &[(true, 7, 0), (false, 0, 1)]),
+        (
+            "\t0x1  007\t0x0 # first\n\n0 0 1\n",
+            &[(true, 7, 0), (false, 0, 1)],
+        ),
     ];
     for (text, cycles) in rows {
         let Ok(trace) = read_trace(alloc, text.as_bytes(), &shape) else {
@@ -189,7 +198,11 @@ fn refuses_traces(rt: HostRuntime) -> Result<(), Fail> {
         ("2 0 0\n", 1, TextKind::ValueTooWide),
         ("0 0 0\n0 8 0\n", 2, TextKind::ValueTooWide),
         ("0 0 2\n0\n", 1, TextKind::ValueTooWide),
-        ("0 7 1\n1 7 1\n18446744073709551615 7 1\n", 3, TextKind::ValueTooWide),
+        (
+            "0 7 1\n1 7 1\n18446744073709551615 7 1\n",
+            3,
+            TextKind::ValueTooWide,
+        ),
     ];
     for (text, line, kind) in rows {
         let fault = fault_in(read_trace(alloc, text.as_bytes(), &shape));

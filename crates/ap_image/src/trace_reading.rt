@@ -10,9 +10,9 @@ ghost use Rattle.ap_image.specs.TraceTexts.{IsCycleOf, IsTraceOf, IsTraceOrMemor
 ghost use Rattle.ap_image.specs.TraceTexts.{are_within, numbers_in, trace_fault, trace_of, trace_text};
 ghost use Rattle.ap_image.specs.declared.trace.Trace.{Trace as DeclaredTrace};
 
-use crate::so_far::has_bits;
 use crate::fault::{TEXT_LIMIT, TextFault, TextKind, at};
 use crate::shape::Shape;
+use crate::so_far::has_bits;
 use crate::trace::{Trace, TraceLine};
 use ap_bits::{Items, NoMemory};
 use ap_text::{Line, Span, lines, number};

@@ -35,12 +35,7 @@ fn put_words(alloc: Global, words: &[u64], out: &mut Vec<u8>) -> Result<(), NoMe
 }
 
 /// Appends a part: its line, and those of its words.
-fn put_part(
-    alloc: Global,
-    name: &str,
-    words: &[u64],
-    out: &mut Vec<u8>,
-) -> Result<(), NoMemory>
+fn put_part(alloc: Global, name: &str, words: &[u64], out: &mut Vec<u8>) -> Result<(), NoMemory>
     ensures ok { OnOk result (out.new.items ≡ out.old.items ++ part_text name.now words.now) }
     ensures kept { IsKept out.old.items out.new.items }
 {
@@ -51,12 +46,7 @@ fn put_part(
 }
 
 /// Appends the part of a data memory, where it has a word.
-fn put_mem(
-    alloc: Global,
-    name: &str,
-    words: &[u64],
-    out: &mut Vec<u8>,
-) -> Result<(), NoMemory>
+fn put_mem(alloc: Global, name: &str, words: &[u64], out: &mut Vec<u8>) -> Result<(), NoMemory>
     ensures ok { OnOk result (out.new.items ≡ out.old.items ++ mem_text name.now words.now) }
     ensures kept { IsKept out.old.items out.new.items }
 {
@@ -87,12 +77,7 @@ fn put_mems(
 }
 
 /// Appends the parts of an image.
-fn put_image(
-    alloc: Global,
-    image: &Image,
-    shape: &Shape,
-    out: &mut Vec<u8>,
-) -> Result<(), NoMemory>
+fn put_image(alloc: Global, image: &Image, shape: &Shape, out: &mut Vec<u8>) -> Result<(), NoMemory>
     ensures ok { OnOk result (out.new.items ≡ out.old.items ++ image_text image.now shape.now) }
     ensures kept { IsKept out.old.items out.new.items }
 {
