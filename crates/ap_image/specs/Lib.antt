@@ -1,4 +1,10 @@
 pub mod FitsShape
+pub mod ImageTexts
+pub mod Kept
+pub mod RowTexts
 pub mod Rows
 pub mod Shapes
+pub mod SoFar
+pub mod TextFaults
+pub mod TraceTexts
 pub mod Words

@@ -1,5 +1,5 @@
 -- The memories and inputs that a processor is run on.
-use Rattle.std.specs.Prelude.{◌≢◌, ℕ, List, [], ◌∷◌, map, codes}
+use Rattle.std.specs.Prelude.{◌≢◌, ◌≤◌, ℕ, List, [], ◌∷◌, map, codes}
 use Rattle.std.specs.List.{AllByRecursion as Each}
 use Rattle.ap_image.specs.declared.shape.MemShape.{MemShape}
 
@@ -19,3 +19,9 @@ AreDistinct (name ∷ names) = Each (λ other. other ≢ name) names × AreDisti
 pub record IsShape (shape : Shape) : Type 0 where
   pub distinct : AreDistinct (map (λ (m : MemShape). m.name) shape.mems)
   pub apart : Each (λ (m : MemShape). m.name ≢ codes "code") shape.mems
+
+-- its words and inputs have at most 64 bits
+pub record IsNarrow (shape : Shape) : Type 0 where
+  pub code : shape.code_width ≤ 64
+  pub mems : Each (λ (m : MemShape). m.width ≤ 64) shape.mems
+  pub inputs : Each (λ width. width ≤ 64) shape.inputs

@@ -1,8 +1,9 @@
 use ap_bits::Items;
 
-/// A write that a row shows. The write groups are numbered from 0 in the order of their ports, and the data memories after
-/// them. In a processor that was made from a description the groups are first the registers that some line writes, in order
-/// of declaration; then the write ports that some line uses, file by file, the later stage first and within a stage by number.
+/// A write that a row shows. The write groups are numbered from 0 in the order of their ports, and
+/// the data memories after them. In a processor that was made from a description the groups are
+/// first the registers that some line writes, in order of declaration; then the write ports that some
+/// line uses, file by file, the later stage first and within a stage by number.
 #[derive(Clone, Copy, Debug, PartialEq, Eq)]
 pub struct Write {
     /// The number of the write's group or memory.

@@ -1,0 +1,9 @@
+pub mod Cycles
+pub mod FirstFaults
+pub mod ImageWritten
+pub mod Kept
+pub mod LinesAt
+pub mod OneMoreLine
+pub mod PartLists
+pub mod TraceWritten
+pub mod WrittenLines
