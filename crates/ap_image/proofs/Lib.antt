@@ -5,5 +5,6 @@ pub mod Kept
 pub mod LinesAt
 pub mod OneMoreLine
 pub mod PartLists
+pub mod ShapeNames
 pub mod TraceWritten
 pub mod WrittenLines

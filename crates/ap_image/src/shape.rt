@@ -1,4 +1,6 @@
 ghost use Rattle.std.specs.Prelude.{◌≡◌};
+ghost use Rattle.std.specs.List.{list_any};
+ghost use Rattle.ap_image.specs.Shapes.{are_mems_named, is_mem_named};
 
 use ap_bits::{Items, Name};
 use std::marker::Model;
@@ -23,6 +25,33 @@ pub struct Shape {
     inputs: Items<u32>,
 }
 
+/// Whether a memory has this name.
+fn is_named(mem: &MemShape, name: &str) -> bool
+    ensures { result ≡ is_mem_named name.now mem.now }
+{
+    name == mem.name.as_str()
+}
+
+/// Whether one of the memories has this name.
+fn has_name(mems: &[MemShape], name: &str) -> bool
+    ensures { result ≡ list_any (is_mem_named name.now) mems.now }
+{
+    mems.iter().any(|mem| is_named(mem, name))
+}
+
+/// Whether the names of the memories differ, and none of them is `code`.
+fn are_mems_named(mems: &[MemShape]) -> bool
+    ensures { result ≡ are_mems_named mems.now }
+{
+    match mems {
+        [first, rest @ ..] => {
+            let name = first.name.as_str();
+            name != "code" && !has_name(rest, name) && are_mems_named(rest)
+        }
+        [] => true,
+    }
+}
+
 impl Model for Shape {
     ghost use Rattle.ap_image.specs.Shapes.{Shape, IsShape};
 
@@ -34,7 +63,24 @@ impl Model for Shape {
 }
 
 impl Shape {
-    ghost use Rattle.ap_image.specs.Shapes.{IsShape};
+    ghost use Rattle.std.specs.Prelude.{IfNone, IfSome};
+    ghost use Rattle.ap_image.specs.Shapes.{IsShape, shape_with};
+
+    /// The shape with these parts, and None where two memories have one name or one is named `code`.
+    pub fn checked(
+        code_address: u32,
+        code_width: u32,
+        mems: Items<MemShape>,
+        inputs: Items<u32>,
+    ) -> Option<Shape>
+        ensures some { IfSome result (λ s. s ≡ shape_with code_address code_width mems inputs) }
+        ensures none { IfNone result (IsShape (shape_with code_address code_width mems inputs) → ⊥) }
+    {
+        if !are_mems_named(mems.as_slice()) {
+            return None;
+        }
+        Some(Shape::new(code_address, code_width, mems, inputs))
+    }
 
     /// The shape with these parts.
     pub fn new(
