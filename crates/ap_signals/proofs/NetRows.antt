@@ -90,7 +90,7 @@ module _ (design : Design) (run : NetRun) (j : ℕ) where
       let here : mem_at design k ≡ mem_shape m = ap (λ o. option_map_or mem_shape o (record { name = []; address = 0; width = 0 })) (ap (slice_get design.mems) none ∙ at 0) in
       let later = λ (i : ℕ). let more : k + 1 + i ≡ k + suc i = omega arith in ap (slice_get design.mems) more ∙ at (suc i) in
       shown_one (value (mem_name (mem_shape m) (codes "we")) == 1) n _ (record { port = port.Memory k; at = value (mem_name (mem_shape m) (codes "wa")); value = value (mem_name (mem_shape m) (codes "wd")) }) refl
-          (mem_writes run.flat.nets (run.values j) (n + 1) (map mem_shape mems))
+      (mem_writes run.flat.nets (run.values j) (n + 1) (map mem_shape mems))
       ∙ (λ i. shown_through n (mem_write k (sym here i)) ++ mems_shown (n + 1) (k + 1) mems later i)
 
   -- All.

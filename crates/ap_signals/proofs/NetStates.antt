@@ -58,19 +58,19 @@ pub net_keeps : (design : Design) (run : NetRun) (j : ℕ) (state : State) → 1
 net_keeps design run j state some has keeps = record {
   pc = record { there = has.pc; holds = keeps.pc };
   regs = λ reg r at. record {
-      there = has.regs reg r at;
-      holds = sym (at_mapped (λ (r : Reg). held_value run j (reg_name r)) design.regs reg r at) ∙ ap (λ s. reg_value s reg) keeps.storages;
-    };
+    there = has.regs reg r at;
+    holds = sym (at_mapped (λ (r : Reg). held_value run j (reg_name r)) design.regs reg r at) ∙ ap (λ s. reg_value s reg) keeps.storages;
+  };
   cells = λ file index f at low. record {
-      there = has.cells file index f at low;
-      holds =
-          let cells = λ (f : File). map (λ k. part_register run.flat (run.states j) (file_part f) (cell_name k)) (range_with_len 0 f.cells) in
-          let none : 0 + index ≡ index = omega arith in
-          sym (ap (λ k. part_register run.flat (run.states j) (file_part f) (cell_name k)) none)
-          ∙ sym (in_range (λ k. part_register run.flat (run.states j) (file_part f) (cell_name k)) 0 f.cells index low)
-          ∙ sym (ap (λ l. slice_index l index) (list_at_mapped cells design.files file f at))
-          ∙ ap (λ s. file_cell_value s file index) keeps.storages;
-    };
+    there = has.cells file index f at low;
+    holds =
+        let cells = λ (f : File). map (λ k. part_register run.flat (run.states j) (file_part f) (cell_name k)) (range_with_len 0 f.cells) in
+        let none : 0 + index ≡ index = omega arith in
+        sym (ap (λ k. part_register run.flat (run.states j) (file_part f) (cell_name k)) none)
+        ∙ sym (in_range (λ k. part_register run.flat (run.states j) (file_part f) (cell_name k)) 0 f.cells index low)
+        ∙ sym (ap (λ l. slice_index l index) (list_at_mapped cells design.files file f at))
+        ∙ ap (λ s. file_cell_value s file index) keeps.storages;
+  };
   mems = ap (λ s. s.mems) keeps.storages;
   flights = let count = keeps.count in keeps_flights design run j has 1 state.flights (omega arith) (omega (arith, count, some)) keeps.flights;
 }

@@ -24,7 +24,7 @@ ghost use Rattle.ap_signals.specs.NetSignals.{net_signals};
 pub fn netlists_show_their_signals()
     ensures rows { (design : Design) (run : NetRun) (j : ℕ)
         → net.shown_row (outside_of design) run.flat (run.values j)
-            ≡ shown_row design (net_signals design run j) }
+        ≡ shown_row design (net_signals design run j) }
     ensures inputs { (design : Design) (trace : Trace) (j : ℕ)
         → line_at trace (shape_of (outside_of design)).inputs j ≡ inputs_at design trace j }
 {}
@@ -50,7 +50,7 @@ pub fn netlists_are_the_machine()
         → IsCircuit design cards image trace c (net_signals design run)
         → (j : ℕ) → j < c
         → net.shown_row (outside_of design) run.flat (run.values j)
-            ≡ row design cards image trace j }
+        ≡ row design cards image trace j }
 {}
 
 /// What is proper for the signals is proper for the unit of a stage, and a unit's age goes on as the next state's equation says.
