@@ -1,13 +1,13 @@
 -- Between what is proper for the signals and what is proper for a unit.
-use Rattle.std.proofs.Common.{◌≡◌, ℕ, suc, ◌+◌, ◌-◌, ◌≤◌, ◌<◌, ◌==◌, ◌&&◌, ◌||◌, ◌⊎◌, inl, inr, not, Bool, true, false, if◌then◌else◌, refl, ap, ◌∙◌, arith}
+use Rattle.std.proofs.Common.{◌≡◌, ℕ, suc, ◌+◌, ◌-◌, ◌≤◌, ◌==◌, ◌&&◌, ◌||◌, ◌⊎◌, inl, inr, not, Bool, true, false, if◌then◌else◌, refl, ap, ◌∙◌, arith}
 use Rattle.ap_desc.specs.declared.design.Design.{Design}
-use Rattle.ap_model.specs.UnitUse.{Ask, IsUnitOf, latency_of}
+use Rattle.ap_model.specs.UnitUse.{Ask, latency_of}
 use Rattle.ap_net.specs.Runs.{bit}
-use Rattle.ap_unit.specs.Ages.{AreProper, age_at}
-use Rattle.ap_cycle.specs.Circuit.{IsProper, ProperBefore}
+use Rattle.ap_unit.specs.Ages.{age_at}
+use Rattle.ap_cycle.specs.Circuit.{IsProper}
 use Rattle.ap_cycle.specs.KeptStates.{is_asked}
 use Rattle.ap_cycle.specs.Signals.{Signals}
-use Rattle.ap_signals.specs.Asked.{AgesGo, HasAge, ProperForUnits, asked_input}
+use Rattle.ap_signals.specs.Asked.{AgesGo, ProperForUnits, asked_input}
 
 is_one : (b : Bool) → bit b ≡ 1 → b ≡ true
 is_one true e = refl

@@ -1,5 +1,5 @@
 -- The row that a netlist shows is the row of its signals.
-use Rattle.std.proofs.Common.{◌≡◌, ℕ, zero, suc, ◌+◌, ◌≤◌, ◌<◌, ◌==◌, Bool, true, false, if◌then◌else◌, List, [], ◌∷◌, ◌++◌, length, map, filter, flat_map, codes, is_some, Option, Some, None, slice_get, refl, ap, sym, ◌∙◌, arith, append_assoc}
+use Rattle.std.proofs.Common.{◌≡◌, ℕ, suc, ◌+◌, ◌==◌, Bool, true, false, if◌then◌else◌, List, [], ◌∷◌, ◌++◌, length, map, filter, flat_map, codes, is_some, Option, Some, None, slice_get, refl, ap, sym, ◌∙◌, arith, append_assoc}
 use Rattle.std.specs.List.{AllByRecursion as Each, range_with_len}
 use Rattle.std.specs.Option.{option_map_or}
 use Rattle.ap_desc.specs.declared.design.Design.{Design}
@@ -12,7 +12,7 @@ use Rattle.ap_model.specs.declared.storage.PortWrite.{PortWrite}
 use Rattle.ap_model.specs.declared.storage.WritePort.{WritePort}
 use Rattle.ap_model.specs.declared.storage.WritePort.TheVariants as port
 use Rattle.ap_model.specs.PortForms.{shown_ports, shown_through}
-use Rattle.ap_model.specs.Ports.{file_groups, file_ports, is_used, is_used_in, mem_ports, reg_ports, row_ports, stages_from_last, write_groups}
+use Rattle.ap_model.specs.Ports.{file_groups, file_ports, is_used, is_used_in, mem_ports, reg_ports, stages_from_last, write_groups}
 use Rattle.ap_model.specs.ShownRows.{shown_write}
 use Rattle.ap_model.proofs.ListLemmas.{each_all, each_both, each_flat_map, each_kept, each_of_map}
 use Rattle.ap_net.specs.Outside.{Group, group_name, mem_name}
@@ -20,7 +20,7 @@ use Rattle.ap_net.specs.Rows.{group_writes, index_of, mem_writes}
 use Rattle.ap_net.specs.Rows as net
 use Rattle.ap_cycle.specs.Signals.{shown_row}
 use Rattle.ap_signals.specs.DesignOutside.{group_of, group_of_file, mem_at, mem_shape, outside_of, reg_group}
-use Rattle.ap_signals.specs.NetRuns.{NetRun, net_value}
+use Rattle.ap_signals.specs.NetRuns.{NetRun, net_value, pc_name, taken_value}
 use Rattle.ap_signals.specs.NetSignals.{net_signals, net_write}
 
 -- a write that is shown where a net is 1
@@ -116,4 +116,4 @@ net_rows design run j =
     let mems = mems_shown design run j (0 + length (write_groups design)) 0 design.mems (λ i. let none : 0 + i ≡ i = omega arith in ap (slice_get design.mems) none) in
     let count : length (map (group_of design) (write_groups design)) ≡ 0 + length (write_groups design) = let same = length_mapped (group_of design) (write_groups design) in omega (arith, same) in
     let writes = (λ i. groups i ++ mem_writes run.flat.nets (run.values j) (count i) (map mem_shape design.mems)) ∙ ap (λ ws. shown_ports (net_write design run j) 0 (write_groups design) ++ ws) mems ∙ sym (ports_appended design run j 0 (write_groups design) (mem_ports design)) in
-    λ i. record { stall = net_value run j (codes "stall") == 1; kill = is_taken (net_value run j (codes "kill") == 1) _ i; writes = writes i }
+    λ i. record { stall = net_value run j (codes "stall") == 1; kill = is_taken (net_value run j (codes "kill") == 1) (taken_value run j pc_name) i; writes = writes i }

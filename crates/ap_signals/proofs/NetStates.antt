@@ -1,5 +1,5 @@
 -- A netlist's state keeps the machine's where its signals do.
-use Rattle.std.proofs.Common.{◌≡◌, ℕ, zero, suc, ◌+◌, ◌-◌, ◌≤◌, ◌<◌, ◌==◌, Bool, true, false, IfSome, List, [], ◌∷◌, length, map, is_some, Option, Some, None, slice_get, slice_index, slice_index_or, refl, ap, sym, ◌∙◌, arith}
+use Rattle.std.proofs.Common.{◌≡◌, ℕ, zero, suc, ◌+◌, ◌≤◌, ◌<◌, ◌==◌, true, List, [], ◌∷◌, length, map, Option, Some, None, slice_get, slice_index, slice_index_or, refl, ap, sym, ◌∙◌, arith}
 use Rattle.std.specs.List.{range_with_len}
 use Rattle.ap_desc.specs.declared.design.Design.{Design}
 use Rattle.ap_desc.specs.declared.design.File.{File}
@@ -7,7 +7,7 @@ use Rattle.ap_desc.specs.declared.design.Reg.{Reg}
 use Rattle.ap_model.specs.declared.state.Flight.{Flight}
 use Rattle.ap_model.specs.declared.state.State.{State}
 use Rattle.ap_model.specs.Stored.{file_cell_value, reg_value}
-use Rattle.ap_cycle.specs.KeptStates.{HasFlight, KeepsFrom, KeepsStage, KeepsState}
+use Rattle.ap_cycle.specs.KeptStates.{KeepsFrom, KeepsStage, KeepsState}
 use Rattle.ap_signals.specs.KeptNets.{HasRegisters, KeepsFlight, KeepsFlights, KeepsMachine}
 use Rattle.ap_signals.specs.NetRuns.{NetRun, cell_name, file_part, held_value, part_register, place_name, reg_name, valid_name, word_name}
 use Rattle.ap_signals.specs.NetSignals.{by_stage, net_signals}

@@ -11,7 +11,7 @@ use Rattle.ap_image.specs.declared.shape.MemShape.{MemShape}
 use Rattle.ap_model.specs.declared.storage.WritePort.{WritePort}
 use Rattle.ap_model.specs.declared.storage.WritePort.TheVariants as port
 use Rattle.ap_model.specs.Ports.{write_groups}
-use Rattle.ap_net.specs.Outside.{Group, InPort, Outside, group_name, mem_name}
+use Rattle.ap_net.specs.Outside.{Group, Outside, group_name, mem_name}
 
 -- a memory of the outside
 abbrev pub mem_shape : Mem → MemShape

@@ -1,5 +1,5 @@
 -- The run of a netlist by names: nets and registers of top, and those of its parts.
-use Rattle.std.specs.Prelude.{◌≡◌, ℕ, ◌+◌, ◌++◌, List, map, codes, position, unwrap_or, Option, slice_get, slice_index, true}
+use Rattle.std.specs.Prelude.{◌≡◌, ℕ, ◌++◌, List, map, codes, position, unwrap_or, slice_get, slice_index, true}
 use Rattle.std.specs.Fmt.{decimal}
 use Rattle.std.specs.List.{list_any}
 use Rattle.std.specs.Str.{bytes_eq}

@@ -1,5 +1,5 @@
 -- The signals of a netlist's run, by the names of its nets. The whole pipeline freezes: one net says of all stages that they are held.
-use Rattle.std.specs.Prelude.{ℕ, zero, suc, ◌+◌, ◌%◌, ◌^◌, ◌==◌, ◌&&◌, ◌||◌, nat_lt, if◌then◌else◌, Bool, true, List, length, map, codes, Option, Some, None, slice_get, slice_index}
+use Rattle.std.specs.Prelude.{ℕ, zero, suc, ◌+◌, ◌%◌, ◌^◌, ◌==◌, ◌&&◌, ◌||◌, nat_lt, if◌then◌else◌, Bool, true, List, length, map, codes, Some, None, slice_get, slice_index}
 use Rattle.std.specs.List.{list_any, range_with_len}
 use Rattle.std.specs.Option.{option_map_or}
 use Rattle.ap_desc.specs.Ports.{micros_in}
@@ -15,7 +15,7 @@ use Rattle.ap_model.specs.declared.storage.WritePort.TheVariants as port
 use Rattle.ap_model.specs.Fire.{instr_of}
 use Rattle.ap_model.specs.PortForms.{Writing}
 use Rattle.ap_model.specs.Stalls.{has_memory_line}
-use Rattle.ap_model.specs.UnitUse.{Ask, is_use_of, latency_of}
+use Rattle.ap_model.specs.UnitUse.{is_use_of, latency_of}
 use Rattle.ap_net.specs.Flat.{Flat}
 use Rattle.ap_net.specs.Runs.{NetState}
 use Rattle.ap_unit.specs.Ages.{UnitInput, age_at}
