@@ -8,35 +8,35 @@ pub returns-clause-reads : goal.returns-clause-reads
 unfolding lines_of number_value spelled_value
 returns-clause-reads c = record {
   lines = (
-    record { number = refl; spells = record { clean = refl; spells = record { spellable = record { names = refl; numbers = refl; formed = refl }; spelled = (refl, ((codes "2", refl, refl), tt)) } } },
+    record { number = refl; spells = record { clean = refl; spells = record { spellable = record { pieces = refl }; spelled = (refl, ((codes "2", refl, refl), tt)) } } },
     (
-      record { number = refl; spells = record { clean = refl; spells = record { spellable = record { names = refl; numbers = refl; formed = refl }; spelled = (refl, ((codes "4", refl, refl), tt)) } } },
+      record { number = refl; spells = record { clean = refl; spells = record { spellable = record { pieces = refl }; spelled = (refl, ((codes "4", refl, refl), tt)) } } },
       (
-        record { number = refl; spells = record { clean = refl; spells = record { spellable = record { names = refl; numbers = refl; formed = refl }; spelled = (refl, ((codes "8", refl, refl), tt)) } } },
+        record { number = refl; spells = record { clean = refl; spells = record { spellable = record { pieces = refl }; spelled = (refl, ((codes "8", refl, refl), tt)) } } },
         (
-          record { number = refl; spells = record { clean = refl; spells = record { spellable = record { names = refl; numbers = refl; formed = refl }; spelled = (refl, ((codes "1", refl, refl), ((codes "0", refl, refl), tt))) } } },
+          record { number = refl; spells = record { clean = refl; spells = record { spellable = record { pieces = refl }; spelled = (refl, ((codes "1", refl, refl), ((codes "0", refl, refl), tt))) } } },
           (
-            record { number = refl; spells = record { clean = refl; spells = record { spellable = record { names = refl; numbers = refl; formed = refl }; spelled = (refl, (refl, ((codes "8", refl, refl), ((codes "3", refl, refl), tt)))) } } },
+            record { number = refl; spells = record { clean = refl; spells = record { spellable = record { pieces = refl }; spelled = (refl, (refl, ((codes "8", refl, refl), ((codes "3", refl, refl), tt)))) } } },
             (
-              record { number = refl; spells = record { clean = refl; spells = record { spellable = record { names = refl; numbers = refl; formed = refl }; spelled = (refl, (refl, (refl, ((codes "8", refl, refl), tt)))) } } },
+              record { number = refl; spells = record { clean = refl; spells = record { spellable = record { pieces = refl }; spelled = (refl, (refl, (refl, ((codes "8", refl, refl), tt)))) } } },
               (
-                record { number = refl; spells = record { clean = refl; spells = record { spellable = record { names = refl; numbers = refl; formed = refl }; spelled = (refl, (refl, ((codes "8", refl, refl), tt))) } } },
+                record { number = refl; spells = record { clean = refl; spells = record { spellable = record { pieces = refl }; spelled = (refl, (refl, ((codes "8", refl, refl), tt))) } } },
                 (
-                  record { number = refl; spells = record { clean = refl; spells = record { spellable = record { names = refl; numbers = refl; formed = refl }; spelled = (refl, (refl, (refl, ((codes "0", refl, refl), tt)))) } } },
+                  record { number = refl; spells = record { clean = refl; spells = record { spellable = record { pieces = refl }; spelled = (refl, (refl, (refl, ((codes "0", refl, refl), tt)))) } } },
                   (
-                    record { number = refl; spells = record { clean = refl; spells = record { spellable = record { names = refl; numbers = refl; formed = refl }; spelled = (refl, tt) } } },
+                    record { number = refl; spells = record { clean = refl; spells = record { spellable = record { pieces = refl }; spelled = (refl, tt) } } },
                     (
-                      record { number = refl; spells = record { clean = refl; spells = record { spellable = record { names = refl; numbers = refl; formed = refl }; spelled = (refl, (refl, (refl, ((codes "1", refl, refl), tt)))) } } },
+                      record { number = refl; spells = record { clean = refl; spells = record { spellable = record { pieces = refl }; spelled = (refl, (refl, (refl, ((codes "1", refl, refl), tt)))) } } },
                       (
-                        record { number = refl; spells = record { clean = refl; spells = record { spellable = record { names = refl; numbers = refl; formed = refl }; spelled = ((codes "1", refl, refl), (refl, (refl, (refl, tt)))) } } },
+                        record { number = refl; spells = record { clean = refl; spells = record { spellable = record { pieces = refl }; spelled = ((codes "1", refl, refl), (refl, (refl, (refl, tt)))) } } },
                         (
-                          record { number = refl; spells = record { clean = refl; spells = record { spellable = record { names = refl; numbers = refl; formed = refl }; spelled = ((codes "1", refl, refl), (refl, (refl, (refl, ((codes "8", refl, refl), ((codes "250", refl, refl), tt)))))) } } },
+                          record { number = refl; spells = record { clean = refl; spells = record { spellable = record { pieces = refl }; spelled = ((codes "1", refl, refl), (refl, (refl, (refl, ((codes "8", refl, refl), ((codes "250", refl, refl), tt)))))) } } },
                           (
-                            record { number = refl; spells = record { clean = refl; spells = record { spellable = record { names = refl; numbers = refl; formed = refl }; spelled = ((codes "1", refl, refl), (refl, (refl, (refl, (refl, (refl, tt)))))) } } },
+                            record { number = refl; spells = record { clean = refl; spells = record { spellable = record { pieces = refl }; spelled = ((codes "1", refl, refl), (refl, (refl, (refl, (refl, (refl, tt)))))) } } },
                             (
-                              record { number = refl; spells = record { clean = refl; spells = record { spellable = record { names = refl; numbers = refl; formed = refl }; spelled = ((codes "1", refl, refl), (refl, (refl, (refl, tt)))) } } },
+                              record { number = refl; spells = record { clean = refl; spells = record { spellable = record { pieces = refl }; spelled = ((codes "1", refl, refl), (refl, (refl, (refl, tt)))) } } },
                               (
-                                record { number = refl; spells = record { clean = refl; spells = record { spellable = record { names = refl; numbers = refl; formed = refl }; spelled = (refl, tt) } } },
+                                record { number = refl; spells = record { clean = refl; spells = record { spellable = record { pieces = refl }; spelled = (refl, tt) } } },
                                 tt,
                               ),
                             ),
@@ -58,35 +58,35 @@ returns-clause-reads c = record {
 pub returns-clause-description : goal.returns-clause-description
 returns-clause-description c = record {
   spelled = (
-    record { names = refl; numbers = refl; formed = refl },
+    record { pieces = refl },
     (
-      record { names = refl; numbers = refl; formed = refl },
+      record { pieces = refl },
       (
-        record { names = refl; numbers = refl; formed = refl },
+        record { pieces = refl },
         (
-          record { names = refl; numbers = refl; formed = refl },
+          record { pieces = refl },
           (
-            record { names = refl; numbers = refl; formed = refl },
+            record { pieces = refl },
             (
-              record { names = refl; numbers = refl; formed = refl },
+              record { pieces = refl },
               (
-                record { names = refl; numbers = refl; formed = refl },
+                record { pieces = refl },
                 (
-                  record { names = refl; numbers = refl; formed = refl },
+                  record { pieces = refl },
                   (
-                    record { names = refl; numbers = refl; formed = refl },
+                    record { pieces = refl },
                     (
-                      record { names = refl; numbers = refl; formed = refl },
+                      record { pieces = refl },
                       (
-                        record { names = refl; numbers = refl; formed = refl },
+                        record { pieces = refl },
                         (
-                          record { names = refl; numbers = refl; formed = refl },
+                          record { pieces = refl },
                           (
-                            record { names = refl; numbers = refl; formed = refl },
+                            record { pieces = refl },
                             (
-                              record { names = refl; numbers = refl; formed = refl },
+                              record { pieces = refl },
                               (
-                                record { names = refl; numbers = refl; formed = refl },
+                                record { pieces = refl },
                                 tt,
                               ),
                             ),
