@@ -1,8 +1,0 @@
-use Rattle.ap_dist.proofs.Built.{IsFollowed}
-use Rattle.ap_dist.proofs.distance.reach.Given as goal
-
-abbrev pub invariant-loop-line : goal.invariant-loop-line
-invariant-loop-line l = IsFollowed l.design l.younger l.word l.older l.line l.most
-
-abbrev pub decreases-loop-line : goal.decreases-loop-line
-decreases-loop-line l = l.line

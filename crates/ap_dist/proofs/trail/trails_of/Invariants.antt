@@ -1,6 +1,0 @@
-use Rattle.std.proofs.Common.{◌≡◌, length}
-use Rattle.ap_dist.proofs.Built.{IsBuilt}
-use Rattle.ap_dist.proofs.trail.trails_of.Given as goal
-
-abbrev pub invariant-loop-place : goal.invariant-loop-place
-invariant-loop-place l = IsBuilt l.design l.instr l.word l.place l.last l.before
