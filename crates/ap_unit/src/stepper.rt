@@ -154,6 +154,8 @@ fn drive_outputs(
     requires ports { ports ≡ port_wires ports.y.width }
     requires held { held ≡ record { high = wire 8 ports.y.width; low = wire 9 ports.y.width } }
     requires running { running ≡ wire 11 1 }
+    requires low { 1 ≤ ports.y.width }
+    requires high { ports.y.width ≤ 64 }
     requires fresh { CanFresh out.old }
     ensures ok { OnOk result (out.new ≡ with_stepper out.old.name ports.y.width k) }
     ensures fresh { OnOk result (CanFresh out.new) }
