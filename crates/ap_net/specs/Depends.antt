@@ -5,10 +5,14 @@ use Rattle.ap_net.specs.declared.cell.Wire.{Wire}
 use Rattle.ap_net.specs.declared.net.Assign.{Assign}
 use Rattle.ap_net.specs.Cells.{operands}
 
--- all that the net n depends on is among these nets: n is, and with each net that is driven so are those that its cell reads
+-- with each net of a set that is driven so are in the set those that its cell reads
+abbrev pub IsClosed : List Assign → (ℕ → Bool) → Type 0
+IsClosed assigns among = Each (λ (a : Assign). IsTrue (among a.to.number) → Each (λ (o : Wire). IsTrue (among o.number)) (operands a.cell)) assigns
+
+-- all that the net n depends on is among these nets
 pub record DependsWithin (assigns : List Assign) (n : ℕ) (among : ℕ → Bool) : Type 0 where
   pub itself : IsTrue (among n)
-  pub closed : Each (λ (a : Assign). IsTrue (among a.to.number) → Each (λ (o : Wire). IsTrue (among o.number)) (operands a.cell)) assigns
+  pub closed : IsClosed assigns among
 
 -- the net n depends on none of these others
 abbrev pub DependsOnNone : List Assign → ℕ → List ℕ → Type 0
