@@ -3,8 +3,8 @@ ghost use Rattle.std.specs.Prelude.{◌≡◌, IfOk};
 ghost use Rattle.ap_image.specs.Rows.{small};
 
 use ap_image::{
-    Image, MemShape, Shape, TextFault, TextKind, Trace, TraceLine, read_image, read_trace,
-    write_image, write_trace,
+    Image, MemShape, Row, Shape, TextFault, TextKind, Trace, TraceLine, Write, read_image,
+    read_trace, write_image, write_row, write_trace,
 };
 use ap_bits::{Items, Name, NoMemory};
 use std::alloc::Global;
@@ -35,6 +35,38 @@ fn small_shape(alloc: Global) -> Result<Shape, NoMemory>
     inputs.push(3)?;
     inputs.push(1)?;
     Ok(Shape::new(4, 8, mems, inputs))
+}
+
+/// Whether there is a shape with data memories of these names.
+fn is_shape(alloc: Global, names: &[&str]) -> Result<bool, Fail> {
+    let mut mems = Items::new(alloc);
+    for name in names {
+        let Some(name) = Name::parse(alloc, name.as_bytes())? else {
+            return Err("it is no name")?;
+        };
+        mems.push(MemShape {
+            name,
+            address: 16,
+            width: 64,
+        })?;
+    }
+    Ok(Shape::checked(4, 8, mems, Items::new(alloc)).is_some())
+}
+
+#[test]
+fn checks_shapes(rt: HostRuntime) -> Result<(), Fail> {
+    let rows: [(&[&str], bool); 6] = [
+        (&[], true),
+        (&["M", "Code", "m"], true),
+        (&["M", "N", "M"], false),
+        (&["M", "N", "N"], false),
+        (&["code"], false),
+        (&["M", "code"], false),
+    ];
+    for (names, is) in rows {
+        assert_eq!(rt; is_shape(rt.alloc(), names)?, is);
+    }
+    Ok(())
 }
 
 /// The fault of a text.
@@ -247,6 +279,62 @@ fn writes_traces(rt: HostRuntime) -> Result<(), Fail> {
     write_trace(alloc, &Trace { lines }, &mut out)?;
     let text = b"# a trace\n0 5 50\n1 6 60\n0 7 70\n";
     assert_eq!(rt; out.as_slice(), text.as_slice());
+    Ok(())
+}
+
+/// A write of this group.
+fn write_of(group: u32, index: Option<u64>, value: u64) -> Write {
+    Write {
+        group,
+        index,
+        value,
+    }
+}
+
+/// The text of a row whose groups and memories are `R`, `GPR.0` and `DM`.
+fn text_of(
+    alloc: Global,
+    cycle: u64,
+    (stall, kill): (bool, bool),
+    written: &[Write],
+) -> Result<Vec<u8>, Fail> {
+    let mut labels = Vec::new(alloc);
+    for label in ["R", "GPR.0", "DM"] {
+        labels.push(String::from_str(alloc, label)?)?;
+    }
+    let mut writes = Items::new(alloc);
+    for write in written {
+        writes.push(*write)?;
+    }
+    let row = Row {
+        stall,
+        kill,
+        writes,
+    };
+    let mut out = Vec::new(alloc);
+    write_row(alloc, &labels, cycle, &row, &mut out)?;
+    Ok(out)
+}
+
+/// The number of a cycle, whether it is stalled and whether a transfer is taken, its writes, and its text.
+type RowRow<'a> = (u64, (bool, bool), &'a [Write], &'a str);
+
+#[test]
+fn writes_rows(rt: HostRuntime) -> Result<(), Fail> {
+    let cell = write_of(1, Some(1), 5);
+    let word = write_of(2, Some(255), 18);
+    let register = write_of(0, None, 0);
+    let rows: [RowRow; 5] = [
+        (0, (false, false), &[], "0 run\n"),
+        (3, (false, false), &[cell], "3 run GPR.0[1]=5\n"),
+        (4, (true, false), &[], "4 stall\n"),
+        (5, (false, true), &[register, word], "5 kill R=0 DM[255]=18\n"),
+        (1_000_000, (true, true), &[], "1000000 stall+kill\n"),
+    ];
+    for (cycle, state, writes, text) in rows {
+        let out = text_of(rt.alloc(), cycle, state, writes)?;
+        assert_eq!(rt; out.as_slice(), text.as_bytes());
+    }
     Ok(())
 }
 
