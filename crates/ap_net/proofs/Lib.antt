@@ -36,4 +36,3 @@ pub mod Running
 pub mod Alone
 pub mod HeldValues
 pub mod Laws
-pub mod Tested

@@ -14,7 +14,6 @@ pub mod Placing
 pub mod Flat
 pub mod Registers
 pub mod Finished
-pub mod Examples
 pub mod Outside
 pub mod Sources
 pub mod Runs

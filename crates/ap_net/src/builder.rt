@@ -77,17 +77,6 @@ impl Builder {
     }
 }
 
-/// The nets in a list.
-fn listed(alloc: Global, nets: &[Wire]) -> Result<Items<Wire>, NoMemory>
-    ensures { IfOk result (λ list. list ≡ nets.now) }
-{
-    let mut list = Items::new(alloc);
-    for net in nets {
-        list.push(*net)?;
-    }
-    Ok(list)
-}
-
 /// Which of these ports are outputs.
 fn outputs_of(alloc: Global, ports: &[Port]) -> Result<Items<bool>, NoMemory>
     ensures { IfOk result (λ list. list ≡ map (λ p. p.output) ports.now) }
@@ -310,7 +299,7 @@ impl Builder {
     {
         let name = NetName::new(self.alloc, name)?;
         let module_name = whole.name().copy(self.alloc)?;
-        let nets = listed(self.alloc, nets)?;
+        let nets = Items::copy_of(self.alloc, nets)?;
         let drives = outputs_of(self.alloc, whole.ports())?;
         self.instances.push(Instance {
             name,

@@ -263,17 +263,6 @@ fn nets_under(alloc: Global, nets: &[Wire], places: &[usize]) -> Result<Items<Wi
     Ok(made)
 }
 
-/// The list once more.
-fn copied(alloc: Global, flags: &[bool]) -> Result<Items<bool>, NoMemory>
-    ensures { IfOk result (λ made. made ≡ flags.now) }
-{
-    let mut made = Items::new(alloc);
-    for flag in flags {
-        made.push(*flag)?;
-    }
-    Ok(made)
-}
-
 /// The instance over the numbers of the finished module.
 fn instance_under(
     alloc: Global,
@@ -286,7 +275,7 @@ fn instance_under(
     let name = instance.name.copy(alloc)?;
     let module = instance.module.copy(alloc)?;
     let nets = nets_under(alloc, instance.nets.as_slice(), places)?;
-    let drives = copied(alloc, instance.drives.as_slice())?;
+    let drives = Items::copy_of(alloc, instance.drives.as_slice())?;
     Ok(Instance {
         name,
         module,

@@ -12,6 +12,3 @@ pub mod solve;
 pub mod write;
 
 pub use ap_bits::NoMemory;
-
-#[cfg(test)]
-mod tests;

@@ -5,7 +5,6 @@ pub mod Laws
 pub mod SlowUnits
 pub mod Users
 pub mod PlainNames
-pub mod Reversed
 pub mod Counted
 pub mod Begun
 pub mod StepNets

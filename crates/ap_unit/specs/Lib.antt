@@ -9,6 +9,4 @@ pub mod Shelves
 pub mod Faults
 pub mod Methods
 pub mod Stepping
-pub mod Rows
 pub mod Named
-pub mod Example

@@ -18,8 +18,3 @@ pub use pieces::{Inputs, declare_inputs, show_result};
 pub use shelf::{Shelf, ShelfFault};
 pub use slow::{SlowInputs, SlowOutputs, asked_units_show, place_slow, slow_units_depend};
 pub use stepper::{Pair, Stepper, begin_steps, end_steps, state_before};
-
-#[cfg(test)]
-mod example;
-#[cfg(test)]
-mod rows;

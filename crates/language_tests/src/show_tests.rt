@@ -2,9 +2,9 @@ ghost use Rattle.std.specs.Prelude.{◌≡◌, IfOk};
 ghost use Rattle.ap_bits.specs.Names.{IsName};
 ghost use Rattle.ap_desc.specs.Examples.{smallest, smallest_header};
 
+use ap_bits::{Items, Name, NoMemory};
 use ap_desc::writing::line_of;
 use ap_desc::{Description, Fault, FieldNumber, Numbered, Statement, Word, show};
-use ap_bits::{Items, Name, NoMemory};
 use std::alloc::Global;
 use std::process::Abort;
 use std::test::Fail;

@@ -2,11 +2,11 @@
 ghost use Rattle.std.specs.Prelude.{◌≡◌, IfOk};
 ghost use Rattle.ap_image.specs.Rows.{small};
 
+use ap_bits::{Items, Name, NoMemory};
 use ap_image::{
     Image, MemShape, Row, Shape, TextFault, TextKind, Trace, TraceLine, Write, read_image,
     read_trace, write_image, write_row, write_trace,
 };
-use ap_bits::{Items, Name, NoMemory};
 use std::alloc::Global;
 use std::process::Abort;
 use std::test::Fail;
@@ -328,7 +328,12 @@ fn writes_rows(rt: HostRuntime) -> Result<(), Fail> {
         (0, (false, false), &[], "0 run\n"),
         (3, (false, false), &[cell], "3 run GPR.0[1]=5\n"),
         (4, (true, false), &[], "4 stall\n"),
-        (5, (false, true), &[register, word], "5 kill R=0 DM[255]=18\n"),
+        (
+            5,
+            (false, true),
+            &[register, word],
+            "5 kill R=0 DM[255]=18\n",
+        ),
         (1_000_000, (true, true), &[], "1000000 stall+kill\n"),
     ];
     for (cycle, state, writes, text) in rows {

@@ -5,10 +5,10 @@ ghost use Rattle.ap_bits.specs.Names.{IsName};
 ghost use Rattle.ap_model.specs.Examples.{field, set_format, set_instr, set_nop, set_register, setter};
 ghost use Rattle.ap_model.specs.Runnable.{IsRunnable};
 
-use ap_model::plain::rows;
 use ap_bits::{Items, Name, NoMemory};
 use ap_desc::design::{Act, Arg, Design, Field, Format, Instr, Micro, Reg};
 use ap_image::{Image, Trace, Write};
+use ap_model::plain::rows;
 use std::alloc::Global;
 use std::test::Fail;
 
