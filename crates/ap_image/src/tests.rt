@@ -328,7 +328,12 @@ fn writes_rows(rt: HostRuntime) -> Result<(), Fail> {
         (0, (false, false), &[], "0 run\n"),
         (3, (false, false), &[cell], "3 run GPR.0[1]=5\n"),
         (4, (true, false), &[], "4 stall\n"),
-        (5, (false, true), &[register, word], "5 kill R=0 DM[255]=18\n"),
+        (
+            5,
+            (false, true),
+            &[register, word],
+            "5 kill R=0 DM[255]=18\n",
+        ),
         (1_000_000, (true, true), &[], "1000000 stall+kill\n"),
     ];
     for (cycle, state, writes, text) in rows {
