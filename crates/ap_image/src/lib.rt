@@ -29,8 +29,3 @@ pub use shape::{MemShape, Shape};
 pub use trace::{Trace, TraceLine};
 pub use trace_reading::read_trace;
 pub use writing::{write_image, write_trace};
-
-#[cfg(test)]
-mod rows;
-#[cfg(test)]
-mod tests;

@@ -4,6 +4,11 @@ pub mod Wiring
 pub mod Modules
 pub mod Opened
 pub mod Draft
+pub mod Readings
+pub mod Depends
+pub mod Ready
+pub mod Late
+pub mod Pending
 pub mod Places
 pub mod Placing
 pub mod Flat
@@ -13,5 +18,9 @@ pub mod Examples
 pub mod Outside
 pub mod Sources
 pub mod Runs
+pub mod Held
+pub mod Responding
+pub mod Answering
+pub mod Alone
 pub mod Rows
 pub mod Text

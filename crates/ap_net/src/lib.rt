@@ -7,6 +7,7 @@ mod finish;
 pub mod module;
 pub mod name;
 pub mod net;
+pub mod readiness;
 pub mod solve;
 pub mod write;
 

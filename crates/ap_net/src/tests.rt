@@ -194,7 +194,8 @@ fn writes_each_cell(rt: HostRuntime) -> Result<(), Fail> {
 /// A netlist with an instance, opened: the instance's nets follow those of `top`, and its ports are joined to their nets.
 fn opens_an_instance()
     ensures opened { opened (inverter ∷ over_inverter ∷ []) ≡ inverter_opened }
-    ensures input { value_in_part 1 inverter_opened.nets (5 ∷ 250 ∷ 250 ∷ 5 ∷ 250 ∷ 2 ∷ []) (codes "a") ≡ 5 }
+    ensures input { value_in_part 1 inverter_opened.nets (5 ∷ 250 ∷ 250 ∷ 5 ∷ 250 ∷ 2 ∷ [])
+        (codes "a") ≡ 5 }
     ensures register { register_in 1 inverter_opened (2 ∷ []) (codes "q") ≡ 2 }
     ensures reset { reset_in inverter_opened 5 ≡ 2 }
 {}
@@ -240,12 +241,15 @@ fn values_of_eight_bits()
 fn values_of_sixty_four_bits()
     ensures add { two_value TwoOp.Add 64 18446744073709551615 1 ≡ 0 }
     ensures sub { two_value TwoOp.Sub 64 0 1 ≡ 18446744073709551615 }
-    ensures and { two_value TwoOp.And 64 18446744073709551615 1311768467463790320 ≡ 1311768467463790320 }
-    ensures xor { two_value TwoOp.Xor 64 18446744073709551615 1311768467463790320 ≡ 17134975606245761295 }
+    ensures and { two_value TwoOp.And 64 18446744073709551615 1311768467463790320
+        ≡ 1311768467463790320 }
+    ensures xor { two_value TwoOp.Xor 64 18446744073709551615 1311768467463790320
+        ≡ 17134975606245761295 }
     ensures ltu { two_value TwoOp.Ltu 1 9223372036854775808 9223372036854775807 ≡ 0 }
     ensures not { cell_value (slice_index (0 ∷ [])) 64 (Cell.Not (wire 0 64))
         ≡ 18446744073709551615 }
-    ensures cat { cell_value (slice_index (4294967295 ∷ 1 ∷ [])) 64 (Cell.Cat (wire 0 32) (wire 1 32))
+    ensures cat { cell_value (slice_index (4294967295 ∷ 1 ∷ [])) 64
+        (Cell.Cat (wire 0 32) (wire 1 32))
         ≡ 18446744069414584321 }
     ensures top_bit { cell_value (slice_index (9223372036854775808 ∷ [])) 1 (Cell.Slice
         (wire 0 64) 63 63) ≡ 1 }

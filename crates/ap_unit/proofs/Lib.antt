@@ -2,7 +2,8 @@ pub mod Placed
 pub mod Single
 pub mod Names
 pub mod Laws
-pub mod Walked
+pub mod SlowUnits
+pub mod Users
 pub mod PlainNames
 pub mod Reversed
 pub mod Counted

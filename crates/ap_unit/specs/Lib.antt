@@ -1,7 +1,7 @@
 pub mod Cards
 pub mod Ages
-pub mod Depends
 pub mod Units
+pub mod Slow
 pub mod Built
 pub mod Pieces
 pub mod Kinds

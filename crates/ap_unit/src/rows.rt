@@ -3,7 +3,7 @@ ghost use Rattle.std.specs.Prelude.{◌≡◌, [], ◌∷◌, map, codes, Some, 
 ghost use Rattle.ap_bits.specs.declared.card.Latency.TheVariants.{One, WidthPlusOne};
 ghost use Rattle.ap_bits.specs.Cards.{operation_value};
 ghost use Rattle.ap_unit.specs.Ages.{age_at, IsProperAt};
-ghost use Rattle.ap_unit.specs.Depends.{DependsOnNone};
+ghost use Rattle.ap_net.specs.Depends.{DependsOnNone};
 ghost use Rattle.ap_unit.specs.Kinds.{place_of, StoodEarlier};
 ghost use Rattle.ap_unit.specs.Units.{ports_by, in_port, out_port};
 ghost use Rattle.ap_unit.specs.Methods.{after_steps, shown_of};
