@@ -1,7 +1,7 @@
 -- A line of a trace, and the cycles that lines are.
-use Rattle.std.proofs.Common.{◌≡◌, ℕ, ◌+◌, ◌-◌, ◌<◌, ◌≤◌, ◌^◌, suc, List, [], ◌∷◌, ◌++◌, length, get_or, take, drop, map, filter_map, not, ◌&&◌, Bool, true, false, cond, nat_lt, eqb, Option, Some, None, refl, sym, ap, subst, ◌∙◌, arith, add-one}
+use Rattle.std.proofs.Common.{◌≡◌, ℕ, ◌+◌, ◌-◌, ◌<◌, ◌≤◌, ◌^◌, suc, List, [], ◌∷◌, ◌++◌, length, get_or, take, drop, map, not, ◌&&◌, Bool, true, false, cond, nat_lt, eqb, Option, Some, None, refl, sym, ap, subst, ◌∙◌, arith, add-one}
 use Rattle.std.specs.List.{AllByRecursion as Each}
-use Rattle.std.specs.Option.{option_map, option_map_or}
+use Rattle.std.specs.Option.{option_map_or}
 use Rattle.std.proofs.Math.ListN.{length-map}
 use Rattle.std.proofs.Math.Seq.{drop-cons, take-length}
 use Rattle.std.proofs.lemmas.Bool.{and_parts, false≢true, lt-ltb, ltb-true, ne_eqb, eq-eqb}
@@ -20,7 +20,7 @@ use Rattle.ap_image.specs.declared.fault.TextKind.TheVariants.{BadForm, NoSuchPa
 use Rattle.ap_image.specs.declared.trace.TraceLine.{TraceLine}
 use Rattle.ap_image.specs.FitsShape.{LineFitsShape, ValuesFit}
 use Rattle.ap_image.specs.Shapes.{Shape}
-use Rattle.ap_image.specs.TextFaults.{IsFine, IsLeastAt, IsFaultOfLine, number_of}
+use Rattle.ap_image.specs.TextFaults.{IsFaultOfLine, number_of}
 use Rattle.ap_image.specs.TraceTexts.{IsCycleOf, IsTraceOf, are_within, before_numbers, cycle_by, is_miscounted, numbers_by, numbers_in, trace_fault, widths_of}
 use Rattle.ap_image.proofs.FirstFaults.{at_least_one, fine_push}
 use Rattle.ap_image.proofs.PartLists.{each_push}

@@ -1,5 +1,5 @@
 -- The first line that has a fault, after lines that are fine.
-use Rattle.std.proofs.Common.{◌≡◌, ℕ, ◌<◌, ◌≤◌, List, [], ◌∷◌, ◌++◌, length, Bool, true, false, nat_lt, inl, inr, refl, sym, ap, subst, ◌∙◌, arith, append-nil, append_assoc, ⊎_elim}
+use Rattle.std.proofs.Common.{◌≡◌, ℕ, ◌<◌, ◌≤◌, List, [], ◌∷◌, ◌++◌, length, true, nat_lt, inl, inr, refl, sym, subst, ◌∙◌, arith, append-nil, append_assoc, ⊎_elim}
 use Rattle.std.specs.Prelude.{IfErr, IfOk, IsTrue, MatchBool, MatchResult, Result, Ok, Err}
 use Rattle.std.proofs.lemmas.Bool.{false≢true, lt-ltb, le-ltb}
 use Rattle.ap_text.specs.Lines.{TextLine, lines_of}

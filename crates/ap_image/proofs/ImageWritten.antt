@@ -1,5 +1,5 @@
 -- The text that is written of an image that fits is without fault, and gives the image.
-use Rattle.std.proofs.Common.{◌≡◌, ℕ, ◌+◌, ◌<◌, ◌≤◌, ◌^◌, ◌≢◌, zero, suc, List, [], ◌∷◌, ◌++◌, ◌&&◌, ◌||◌, length, map, filter_map, fold, Bool, true, false, cond, nat_lt, Option, Some, None, refl, sym, ap, subst, ◌∙◌, arith, append-nil, append_assoc}
+use Rattle.std.proofs.Common.{◌≡◌, ℕ, ◌+◌, ◌<◌, ◌≤◌, ◌^◌, ◌≢◌, zero, suc, List, [], ◌∷◌, ◌++◌, ◌&&◌, ◌||◌, length, map, filter_map, fold, Bool, true, false, cond, Option, Some, None, refl, sym, ap, subst, ◌∙◌, arith, append-nil, append_assoc}
 use Rattle.std.specs.Prelude.{codes, slice_get}
 use Rattle.std.specs.Char.{is_ascii_alphanumeric}
 use Rattle.std.specs.Fmt.{digits}
@@ -14,7 +14,7 @@ use Rattle.std.proofs.lemmas.List.{length-append}
 use Rattle.std.proofs.lemmas.List.Elements.{filter_map-append}
 use Rattle.std.proofs.lemmas.List.Folds.{list_any-append}
 use Rattle.std.proofs.lemmas.Option.{none-some, same_Some}
-use Rattle.ap_bits.specs.Names.{IsName, is_name, starts_with_letter}
+use Rattle.ap_bits.specs.Names.{IsName, starts_with_letter}
 use Rattle.ap_text.specs.Lines.{TextLine, is_token, lines_of}
 use Rattle.ap_text.specs.Numbers.{hexadecimal}
 use Rattle.ap_text.proofs.Written.{number_value-hexadecimal}

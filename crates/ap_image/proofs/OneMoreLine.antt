@@ -1,16 +1,15 @@
 -- One more line of an image, and what its reader keeps of it.
-use Rattle.std.proofs.Common.{◌≡◌, ℕ, ◌+◌, ◌<◌, ◌≤◌, ◌^◌, zero, suc, List, [], ◌∷◌, ◌++◌, length, get_or, map, filter_map, fold, Bool, true, false, cond, ◌||◌, ◌&&◌, nat_le, nat_lt, eqb, Option, Some, None, refl, sym, ap, subst, ◌∙◌, arith, append-nil, append_assoc}
-use Rattle.std.specs.Prelude.{is_none, is_some, slice_get, slice_index, slice_set, option_and_then, IfSome}
+use Rattle.std.proofs.Common.{◌≡◌, ℕ, ◌<◌, ◌≤◌, ◌^◌, List, [], ◌∷◌, ◌++◌, length, get_or, map, filter_map, fold, Bool, true, false, cond, ◌||◌, nat_le, nat_lt, eqb, Option, Some, None, refl, sym, ap, subst, ◌∙◌, arith, append-nil, append_assoc}
+use Rattle.std.specs.Prelude.{is_some, slice_get, slice_index, slice_set, IfSome}
 use Rattle.std.specs.List.{list_any, AllByRecursion as Each}
-use Rattle.std.specs.Option.{option_map_or, option_or}
 use Rattle.std.specs.Str.{bytes_eq}
 use Rattle.std.proofs.Math.ListN.{length-map}
-use Rattle.std.proofs.lemmas.Bool.{false≢true, lt-ltb, ltb-true, ltb-false, le-leb, lt-leb, ne_eqb, eq-eqb}
+use Rattle.std.proofs.lemmas.Bool.{false≢true, ltb-true, ltb-false, le-leb, lt-leb, ne_eqb, eq-eqb}
 use Rattle.std.proofs.lemmas.Grind.{common_steps}
 use Rattle.std.proofs.lemmas.List.Folds.{list_any-append}
 use Rattle.std.proofs.lemmas.List.Sums.{fold-append}
 use Rattle.std.proofs.lemmas.List.Elements.{filter_map-append}
-use Rattle.std.proofs.lemmas.Option.{none-some, same_Some, slice_get_read}
+use Rattle.std.proofs.lemmas.Option.{none-some, slice_get_read}
 use Rattle.ap_text.specs.Lines.{TextLine}
 use Rattle.ap_image.specs.declared.so_far.SoFar.{SoFar}
 use Rattle.ap_image.specs.declared.fault.TextFault.{TextFault}
@@ -20,7 +19,7 @@ use Rattle.ap_image.specs.declared.fault.TextKind.TheVariants.{BadForm, NoSuchPa
 use Rattle.ap_image.specs.declared.image.Image.{Image}
 use Rattle.ap_image.specs.declared.shape.MemShape.{MemShape}
 use Rattle.ap_image.specs.FitsShape.{ImageFitsShape, MemsFit, WordsFit}
-use Rattle.ap_image.specs.ImageTexts.{begun_by, code_part, given_by, has_begun, image_fault, next_part, part_after, part_in, part_named, parts_of, place_after, says_nothing, word_in, words_at, words_from, words_of}
+use Rattle.ap_image.specs.ImageTexts.{begun_by, code_part, given_by, has_begun, image_fault, next_part, part_after, part_in, part_named, parts_of, word_in, words_at, words_from, words_of}
 use Rattle.ap_image.specs.Shapes.{IsShape, Shape}
 use Rattle.ap_image.specs.TextFaults.{IsFine, IsLeastAt, IsFaultOfLine, number_of}
 use Rattle.ap_image.specs.SoFar.{IsSoFar, StandsIn}

@@ -1,5 +1,5 @@
 -- The parts that an image may have: their names differ, so that a name finds one of them.
-use Rattle.std.proofs.Common.{◌≡◌, ℕ, ◌+◌, ◌<◌, zero, suc, List, [], ◌∷◌, ◌++◌, length, get_or, map, Bool, true, false, cond, Option, Some, None, refl, sym, ap, subst, ◌∙◌, arith, ◌≢◌, nat_lt, ⊎_elim}
+use Rattle.std.proofs.Common.{◌≡◌, ℕ, ◌+◌, ◌<◌, zero, suc, List, [], ◌∷◌, ◌++◌, length, get_or, map, Bool, true, false, cond, Some, None, refl, sym, ap, subst, ◌∙◌, arith, ◌≢◌, nat_lt, ⊎_elim}
 use Rattle.std.specs.Prelude.{slice_get, slice_set, position}
 use Rattle.std.specs.List.{AllByRecursion as Each, find, position_or_len}
 use Rattle.std.specs.Option.{option_map}

@@ -1,12 +1,11 @@
 -- The text that is written of a trace that fits is without fault, and gives the trace.
-use Rattle.std.proofs.Common.{◌≡◌, ℕ, ◌+◌, ◌<◌, ◌≤◌, ◌^◌, suc, List, [], ◌∷◌, ◌++◌, length, map, filter_map, Bool, true, false, cond, nat_lt, eqb, Some, refl, sym, ap, subst, ◌∙◌, arith, append-nil, append_assoc}
+use Rattle.std.proofs.Common.{◌≡◌, ℕ, ◌+◌, ◌<◌, ◌≤◌, ◌^◌, suc, List, [], ◌∷◌, ◌++◌, length, map, Bool, true, false, cond, nat_lt, eqb, Some, refl, sym, ap, subst, ◌∙◌, arith, append-nil, append_assoc}
 use Rattle.std.specs.Prelude.{codes}
 use Rattle.std.specs.Fmt.{decimal}
 use Rattle.std.specs.List.{flat_map, list_all, AllByRecursion as Each}
 use Rattle.std.specs.Str.Parse.{IsNumeral}
 use Rattle.std.proofs.Math.Nat.{pow-le-pow_right}
 use Rattle.std.proofs.lemmas.Bool.{and_from, lt-ltb}
-use Rattle.std.proofs.lemmas.Bool.Decides.{nat_tests}
 use Rattle.std.proofs.lemmas.Fmt.{decimal_is_IsNumeral}
 use Rattle.ap_text.specs.Lines.{TextLine, is_token, lines_of}
 use Rattle.ap_text.specs.Numbers.{number_value, spelled_value}
@@ -16,7 +15,7 @@ use Rattle.ap_image.specs.declared.trace.TraceLine.{TraceLine}
 use Rattle.ap_image.specs.FitsShape.{LineFitsShape, TraceFitsShape, ValuesFit}
 use Rattle.ap_image.specs.Shapes.{IsNarrow, Shape}
 use Rattle.ap_image.specs.TextFaults.{AreFine}
-use Rattle.ap_image.specs.TraceTexts.{IsCycleOf, IsTraceOf, after_space, are_within, cycle_by, cycle_text, numbers_in, trace_fault, trace_of, trace_text}
+use Rattle.ap_image.specs.TraceTexts.{IsCycleOf, IsTraceOf, after_space, are_within, cycle_text, numbers_in, trace_fault, trace_of, trace_text}
 use Rattle.ap_image.proofs.Cycles.{cycle_good, line_numbers, trace_step}
 use Rattle.ap_image.proofs.WrittenLines.{IsWhole, Spoken, digits_plain, is_plain, is_whole, lines_are, numbered, spoken_text}
 

@@ -1,15 +1,14 @@
 -- The text of lines whose tokens have one space between them is read as these lines.
-use Rattle.std.proofs.Common.{◌≡◌, ℕ, ◌+◌, ◌<◌, ◌≤◌, suc, List, [], ◌∷◌, ◌++◌, ◌&&◌, not, Bool, true, false, map, refl, sym, ap, ◌∙◌, arith, append-nil, append_assoc}
+use Rattle.std.proofs.Common.{◌≡◌, ℕ, ◌+◌, ◌<◌, ◌≤◌, suc, List, [], ◌∷◌, ◌++◌, ◌&&◌, not, Bool, true, refl, ap, ◌∙◌, arith, append-nil, append_assoc}
 use Rattle.std.specs.Prelude.{filter, nat_le, ◌==◌}
 use Rattle.std.specs.Char.{digit_value}
 use Rattle.std.specs.Str.Parse.{AllDigits}
 use Rattle.std.specs.List.{list_all, slice_split, onto_first, before_first, position_or_len, flat_map, AllByRecursion as Each}
 use Rattle.std.proofs.lemmas.Bool.{and_from, and_parts, not-true}
 use Rattle.std.proofs.lemmas.Bool.Decides.{nat_tests}
-use Rattle.std.proofs.lemmas.Grind.{flat_map-append}
 use Rattle.std.proofs.lemmas.List.Folds.{list_all-append}
 use Rattle.std.proofs.lemmas.List.Splits.{slice_split-cons_no}
-use Rattle.ap_text.specs.Lines.{TextLine, is_allowed, is_blank, is_clean, is_comment_sign, is_line_feed, is_skipped, is_token, lines_from, lines_of, numbered_from, text_line, tokens_of}
+use Rattle.ap_text.specs.Lines.{TextLine, is_allowed, is_blank, is_clean, is_comment_sign, is_line_feed, is_skipped, is_token, lines_from, lines_of, numbered_from, tokens_of}
 
 -- a printing byte that is neither a blank nor the comment sign
 abbrev pub is_plain : ℕ → Bool

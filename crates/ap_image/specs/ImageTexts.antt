@@ -1,13 +1,12 @@
 -- What the text of an image says, which faults it has, and the text that is written of an image. An image has a part `code` and
 -- one for each data memory: a line `part NAME` begins a part, and each line after it with one number is the part's next word.
-use Rattle.std.specs.Prelude.{◌≡◌, ℕ, ◌^◌, ◌==◌, ◌++◌, ◌&&◌, ◌||◌, nat_le, is_some, is_none, Bool, true, false, if◌then◌else◌, List, [], ◌∷◌, length, map, fold, find, filter_map, codes, Option, Some, None, option_and_then, MatchResult, Result}
+use Rattle.std.specs.Prelude.{◌≡◌, ℕ, ◌^◌, ◌==◌, ◌++◌, ◌&&◌, ◌||◌, nat_le, is_some, is_none, Bool, false, if◌then◌else◌, List, [], ◌∷◌, length, map, fold, find, filter_map, codes, Option, Some, None, option_and_then, MatchResult, Result}
 use Rattle.std.specs.List.{flat_map, list_any}
 use Rattle.std.specs.Option.{option_or, option_map_or}
 use Rattle.std.specs.Str.{bytes_eq}
 use Rattle.ap_text.specs.Lines.{TextLine}
 use Rattle.ap_text.specs.Numbers.{number_value, hexadecimal}
 use Rattle.ap_bits.specs.Names.{is_name}
-use Rattle.ap_image.specs.declared.fault.TextKind.{TextKind}
 use Rattle.ap_image.specs.declared.fault.TextKind.TheVariants.{BadForm, NoSuchPart, ValueTooWide, TooManyWords}
 use Rattle.ap_image.specs.declared.fault.TextFault.{TextFault}
 use Rattle.ap_image.specs.declared.fault.TextFault.TheVariants.{NoMemory}

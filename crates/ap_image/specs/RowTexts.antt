@@ -1,5 +1,5 @@
 -- The text of a row: a line with the number of the cycle, its state, and its writes.
-use Rattle.std.specs.Prelude.{ℕ, ◌++◌, Bool, true, false, List, [], ◌∷◌, codes, Option, Some, None, slice_get, unwrap_or}
+use Rattle.std.specs.Prelude.{ℕ, ◌++◌, Bool, true, false, List, [], codes, Option, Some, None, slice_get, unwrap_or}
 use Rattle.std.specs.Fmt.{decimal}
 use Rattle.std.specs.List.{flat_map}
 use Rattle.ap_image.specs.declared.row.Row.{Row}

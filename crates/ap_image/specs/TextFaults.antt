@@ -1,5 +1,5 @@
 -- The faults of the text of an image or a trace, whose lines are judged in order. These are the project's own rules.
-use Rattle.std.specs.Prelude.{◌≡◌, ℕ, ◌<◌, ◌≤◌, ◌⊎◌, nat_lt, Bool, true, false, IsTrue, MatchBool, List, [], ◌∷◌, ◌++◌, length, codes}
+use Rattle.std.specs.Prelude.{◌≡◌, ℕ, ◌≤◌, ◌⊎◌, nat_lt, Bool, false, IsTrue, MatchBool, List, [], ◌∷◌, ◌++◌, length, codes}
 use Rattle.ap_text.specs.Lines.{TextLine, lines_of}
 use Rattle.ap_image.specs.declared.fault.TheConstants.{TEXT_LIMIT}
 use Rattle.ap_image.specs.declared.fault.TextFault.{TextFault}

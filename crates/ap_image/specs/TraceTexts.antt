@@ -6,7 +6,6 @@ use Rattle.std.specs.List.{flat_map}
 use Rattle.std.specs.Option.{option_map, option_map_or}
 use Rattle.ap_text.specs.Lines.{TextLine}
 use Rattle.ap_text.specs.Numbers.{number_value}
-use Rattle.ap_image.specs.declared.fault.TextKind.{TextKind}
 use Rattle.ap_image.specs.declared.fault.TextKind.TheVariants.{BadForm, NoSuchPart, ValueTooWide, TooManyWords}
 use Rattle.ap_image.specs.declared.fault.TextFault.{TextFault}
 use Rattle.ap_image.specs.declared.fault.TextFault.TheVariants.{NoMemory}

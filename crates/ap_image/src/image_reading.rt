@@ -182,7 +182,8 @@ pub fn read_image(alloc: Global, text: &[u8], shape: &Shape) -> Result<Image, Te
 
     // What is written of an image that fits is read as it.
     ensures written { IsNarrow shape.now → (image : DeclaredImage)
-        → ImageFitsShape image shape.now → text.now ≡ image_text image shape.now → length text.now ≤ text_limit
+        → ImageFitsShape image shape.now → text.now ≡ image_text image shape.now
+        → length text.now ≤ text_limit
         → IsImageOrMemory image result }
 {
     shape.rules();

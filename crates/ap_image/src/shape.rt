@@ -57,9 +57,19 @@ impl Model for Shape {
 
     ghost Value = { Shape };
 
-    ghost view = { λ s. record { code_address = s.code_address; code_width = s.code_width; mems = s.mems; inputs = s.inputs } };
+    ghost view = { λ s. record {
+      code_address = s.code_address;
+      code_width = s.code_width;
+      mems = s.mems;
+      inputs = s.inputs;
+    } };
 
-    ghost invariant = { λ s. IsShape (record { code_address = s.code_address; code_width = s.code_width; mems = s.mems; inputs = s.inputs }) };
+    ghost invariant = { λ s. IsShape (record {
+      code_address = s.code_address;
+      code_width = s.code_width;
+      mems = s.mems;
+      inputs = s.inputs;
+    }) };
 }
 
 impl Shape {
@@ -74,7 +84,8 @@ impl Shape {
         inputs: Items<u32>,
     ) -> Option<Shape>
         ensures some { IfSome result (λ s. s ≡ shape_with code_address code_width mems inputs) }
-        ensures none { IfNone result (IsShape (shape_with code_address code_width mems inputs) → ⊥) }
+        ensures none { IfNone result
+            (IsShape (shape_with code_address code_width mems inputs) → ⊥) }
     {
         if !are_mems_named(mems.as_slice()) {
             return None;
@@ -89,8 +100,18 @@ impl Shape {
         mems: Items<MemShape>,
         inputs: Items<u32>,
     ) -> Shape
-        requires { IsShape (record { code_address = code_address; code_width = code_width; mems = mems; inputs = inputs }) }
-        ensures { result ≡ record { code_address = code_address; code_width = code_width; mems = mems; inputs = inputs } }
+        requires { IsShape (record {
+          code_address = code_address;
+          code_width = code_width;
+          mems = mems;
+          inputs = inputs;
+        }) }
+        ensures { result ≡ record {
+          code_address = code_address;
+          code_width = code_width;
+          mems = mems;
+          inputs = inputs;
+        } }
     {
         Shape {
             code_address,

@@ -131,7 +131,8 @@ pub fn read_trace(alloc: Global, text: &[u8], shape: &Shape) -> Result<Trace, Te
 
     // What is written of a trace that fits is read as it.
     ensures written { IsNarrow shape.now → (trace : DeclaredTrace)
-        → TraceFitsShape trace shape.now → text.now ≡ trace_text trace → length text.now ≤ text_limit
+        → TraceFitsShape trace shape.now → text.now ≡ trace_text trace
+        → length text.now ≤ text_limit
         → IsTraceOrMemory trace result }
 {
     if text.len() > TEXT_LIMIT {

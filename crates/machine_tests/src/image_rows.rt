@@ -19,7 +19,10 @@ fn images()
     ensures wide { ImageFitsShape (record { code = 256 ∷ []; mems = [] ∷ [] }) small → ⊥ }
     ensures long { ImageFitsShape (record { code = 0 ∷ sixteen; mems = [] ∷ [] }) small → ⊥ }
     ensures wide_mem { ImageFitsShape (record { code = []; mems = (4 ∷ []) ∷ [] }) small → ⊥ }
-    ensures long_mem { ImageFitsShape (record { code = []; mems = (0 ∷ 0 ∷ 0 ∷ []) ∷ [] }) small → ⊥ }
+    ensures long_mem { ImageFitsShape (record {
+      code = [];
+      mems = (0 ∷ 0 ∷ 0 ∷ []) ∷ [];
+    }) small → ⊥ }
     ensures no_mem { ImageFitsShape (record { code = []; mems = [] }) small → ⊥ }
 {}
 
@@ -29,14 +32,25 @@ fn lines()
     ensures short { LineFitsShape (record { wait = false; ports = 7 ∷ [] }) small → ⊥ }
     ensures long { LineFitsShape (record { wait = false; ports = 7 ∷ 1 ∷ 0 ∷ [] }) small → ⊥ }
     ensures wide { LineFitsShape (record { wait = false; ports = 8 ∷ 1 ∷ [] }) small → ⊥ }
-    ensures trace { TraceFitsShape (record { lines = record { wait = true; ports = 7 ∷ 1 ∷ [] } ∷ [] }) small }
-    ensures bad { TraceFitsShape (record { lines = record { wait = true; ports = 0 ∷ 0 ∷ [] } ∷ record { wait = false; ports = [] } ∷ [] }) small → ⊥ }
+    ensures trace { TraceFitsShape (record {
+      lines = record { wait = true; ports = 7 ∷ 1 ∷ [] } ∷ [];
+    }) small }
+    ensures bad { TraceFitsShape (record {
+      lines =
+          record { wait = true; ports = 0 ∷ 0 ∷ [] }
+          ∷ record { wait = false; ports = [] }
+          ∷ [];
+    }) small → ⊥ }
 {}
 
 /// Cycle 0 has the first line, and after the last line all is 0.
 fn cycles()
-    ensures first { line_at (record { lines = record { wait = true; ports = 7 ∷ 1 ∷ [] } ∷ [] }) (3 ∷ 1 ∷ []) 0 ≡ record { wait = true; ports = 7 ∷ 1 ∷ [] } }
-    ensures after { line_at (record { lines = record { wait = true; ports = 7 ∷ 1 ∷ [] } ∷ [] }) (3 ∷ 1 ∷ []) 1 ≡ record { wait = false; ports = 0 ∷ 0 ∷ [] } }
+    ensures first { line_at (record {
+      lines = record { wait = true; ports = 7 ∷ 1 ∷ [] } ∷ [];
+    }) (3 ∷ 1 ∷ []) 0 ≡ record { wait = true; ports = 7 ∷ 1 ∷ [] } }
+    ensures after { line_at (record {
+      lines = record { wait = true; ports = 7 ∷ 1 ∷ [] } ∷ [];
+    }) (3 ∷ 1 ∷ []) 1 ≡ record { wait = false; ports = 0 ∷ 0 ∷ [] } }
 {}
 
 /// A row's line: the cycle, its state, and each write with its label.

@@ -1,4 +1,4 @@
-use Rattle.std.proofs.Common.{◌≡◌, ◌^◌, length, nat_lt, sym, ap, ◌∙◌}
+use Rattle.std.proofs.Common.{◌^◌, nat_lt, sym, ap, ◌∙◌}
 use Rattle.ap_image.proofs.OneMoreLine.{grown_from, many_fault, place_within, wide_fault, word_step}
 use Rattle.ap_image.proofs.image_reading.add_word.Goals as goal
 

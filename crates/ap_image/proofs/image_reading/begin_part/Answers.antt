@@ -1,4 +1,4 @@
-use Rattle.std.proofs.Common.{◌≡◌, get_or, sym, ap, ◌∙◌}
+use Rattle.std.proofs.Common.{get_or, sym, ap, ◌∙◌}
 use Rattle.ap_image.proofs.OneMoreLine.{begin_step, second_fault, unknown_fault}
 use Rattle.ap_image.proofs.image_reading.begin_part.Goals as goal
 

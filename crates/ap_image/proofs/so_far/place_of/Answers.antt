@@ -1,4 +1,4 @@
-use Rattle.std.proofs.Common.{◌≡◌, sym, rules}
+use Rattle.std.proofs.Common.{sym, rules}
 use Rattle.ap_image.proofs.PartLists.{mem_found, none_named}
 use Rattle.ap_image.proofs.so_far.place_of.Goals as goal
 

@@ -1,4 +1,4 @@
-use Rattle.std.proofs.Common.{◌≡◌, ◌+◌, ◌<◌, Some, length, map, take, drop, get_or, sym, ap, ◌∙◌, arith}
+use Rattle.std.proofs.Common.{◌<◌, Some, length, map, take, sym, ap, ◌∙◌, arith}
 use Rattle.ap_text.specs.Numbers.{number_value}
 use Rattle.ap_text.specs.Spans.{bytes_in}
 use Rattle.ap_text.specs.declared.line.Span.{Span}
