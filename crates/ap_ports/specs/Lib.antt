@@ -1,0 +1,9 @@
+pub mod Ways
+pub mod Numbers
+pub mod Firsts
+pub mod Numbered
+pub mod Sooner
+pub mod Graphs
+pub mod Elsewhere
+pub mod Flow
+pub mod Orders
