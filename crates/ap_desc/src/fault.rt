@@ -181,11 +181,3 @@ impl From<ap_bits::NoMemory> for DescFault {
         DescFault::NoMemory
     }
 }
-
-impl From<ap_text::NoMemory> for DescFault {
-    ghost from_gives = { λ _ given. given ≡ fault.NoMemory };
-
-    fn from(_: ap_text::NoMemory) -> DescFault {
-        DescFault::NoMemory
-    }
-}

@@ -68,11 +68,3 @@ impl From<ap_bits::NoMemory> for TextFault {
         TextFault::NoMemory
     }
 }
-
-impl From<ap_text::NoMemory> for TextFault {
-    ghost from_gives = { λ _ given. given ≡ fault.NoMemory };
-
-    fn from(_: ap_text::NoMemory) -> TextFault {
-        TextFault::NoMemory
-    }
-}

@@ -2,7 +2,7 @@ ghost use Rattle.std.specs.Prelude.{◌≡◌, ◌++◌, OnOk, OnErr, Some};
 ghost use Rattle.std.specs.Fmt.{decimal};
 ghost use Rattle.ap_text.specs.Numbers.{hexadecimal, number_value};
 
-use crate::NoMemory;
+use ap_bits::NoMemory;
 use std::alloc::Global;
 
 /// Appends the decimal digits of `v`, with no leading zeros. `NoMemory` comes only where memory ran out; the text is then
@@ -11,9 +11,8 @@ pub fn put_dec(alloc: Global, v: u64, out: &mut Vec<u8>) -> Result<(), NoMemory>
     ensures ok { OnOk result (out.new.items ≡ out.old.items ++ decimal v) }
     ensures err { OnErr result (out.new.items ≡ out.old.items) }
 {
-    let text = v.to_string(alloc).map_err(|_| NoMemory)?;
-    out.extend_from_slice(text.as_bytes())
-        .map_err(|_| NoMemory)?;
+    let text = v.to_string(alloc)?;
+    out.extend_from_slice(text.as_bytes())?;
     Ok(())
 }
 
@@ -23,9 +22,8 @@ pub fn put_hex(alloc: Global, v: u64, out: &mut Vec<u8>) -> Result<(), NoMemory>
     ensures ok { OnOk result (out.new.items ≡ out.old.items ++ hexadecimal v) }
     ensures err { OnErr result (out.new.items ≡ out.old.items) }
 {
-    let text = format!(in alloc; "0x{v:x}").map_err(|_| NoMemory)?;
-    out.extend_from_slice(text.as_bytes())
-        .map_err(|_| NoMemory)?;
+    let text = format!(in alloc; "0x{v:x}")?;
+    out.extend_from_slice(text.as_bytes())?;
     Ok(())
 }
 

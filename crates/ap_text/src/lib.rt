@@ -12,9 +12,9 @@ pub mod numbers;
 pub mod reading;
 
 pub use digits::{put_dec, put_hex, written_is_read};
-pub use line::{Line, Span, SpanList};
+pub use line::{Line, Span};
 pub use numbers::{NumberFault, number};
-pub use reading::{NoMemory, lines};
+pub use reading::lines;
 
 #[cfg(test)]
 mod rows;

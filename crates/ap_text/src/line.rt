@@ -1,7 +1,6 @@
-ghost use Rattle.std.specs.Prelude.{◌≡◌, ◌==◌, ◌++◌, ◌∷◌, ◌<◌, [], length, slice_get, OnOk, OnErr};
+ghost use Rattle.std.specs.Prelude.{◌≡◌, ◌<◌, length, slice_get};
 
-use std::alloc::{AllocError, Global};
-use std::marker::Model;
+use ap_bits::Items;
 
 /// A part of a text: the bytes from place `from` up to place `to`, which it doesn't hold.
 #[derive(Clone, Copy, Debug, PartialEq, Eq)]
@@ -24,69 +23,13 @@ impl Span {
     }
 }
 
-/// The spans of a line's tokens, in their order.
-#[derive(Debug, Drop)]
-pub struct SpanList {
-    spans: Vec<Span>,
-}
-
-impl Model for SpanList {
-    ghost use Rattle.std.specs.Prelude.{List};
-    ghost use Rattle.ap_text.specs.declared.line.Span.{Span};
-
-    ghost Value = { List Span };
-
-    ghost view = { λ a. a.spans.items };
-}
-
-impl SpanList {
-    /// No spans.
-    pub(crate) fn new(alloc: Global) -> Self
-        ensures { result ≡ [] }
-    {
-        SpanList {
-            spans: Vec::new(alloc),
-        }
-    }
-
-    /// Adds a span at the end. Without memory for it the list stays.
-    pub(crate) fn push(&mut self, span: Span) -> Result<(), AllocError>
-        ensures ok { OnOk result (self.new ≡ self.old ++ span ∷ []) }
-        ensures err { OnErr result (self.new ≡ self.old) }
-    {
-        self.spans.push(span)?;
-        Ok(())
-    }
-
-    /// How many there are.
-    pub fn len(&self) -> usize
-        ensures { result ≡ length self.now }
-    {
-        self.spans.len()
-    }
-
-    /// Whether there are none.
-    pub fn is_empty(&self) -> bool
-        ensures { result ≡ (length self.now == 0) }
-    {
-        self.spans.is_empty()
-    }
-
-    /// The spans in a slice.
-    pub fn as_slice(&self) -> &[Span]
-        ensures { result.now ≡ self.now }
-    {
-        self.spans.as_slice()
-    }
-}
-
 /// A line of a text that has tokens or a bad byte.
 #[derive(Debug, Drop)]
 pub struct Line {
     /// Its number in the text, counted from 1.
     pub number: u32,
     /// Where its tokens stand in the text.
-    pub tokens: SpanList,
+    pub tokens: Items<Span>,
     /// Whether it holds none but tabs and printing characters of ASCII, in its comment too.
     pub clean: bool,
 }

@@ -4,12 +4,9 @@ ghost use Rattle.ap_text.specs.Lines.{lines_of, tokens_of, text_line, is_comment
 ghost use Rattle.ap_text.specs.Lines as bytes;
 ghost use Rattle.ap_text.specs.Spans.{IsWithin, IsLineWithin, AreLinesWithin, bytes_in, line_in, unless_empty, unless_bare};
 
-use crate::line::{Line, Span, SpanList};
+use crate::line::{Line, Span};
+use ap_bits::{Items, NoMemory};
 use std::alloc::Global;
-
-/// Memory ran out.
-#[derive(Clone, Copy, Debug, PartialEq, Eq)]
-pub struct NoMemory;
 
 /// The lines of a text of at most 67,108,864 bytes that have tokens or a bad byte.
 ///
@@ -59,20 +56,20 @@ fn add_line(list: &mut Vec<Line>, line: Line) -> Result<(), NoMemory>
     ensures { OnOk result (list.new.items ≡ list.old.items ++ unless_bare line) }
 {
     if !line.tokens.is_empty() || !line.clean {
-        list.push(line).map_err(|_| NoMemory)?;
+        list.push(line)?;
     }
     Ok(())
 }
 
 /// The tokens of a line that is this part of the text.
-fn tokens(alloc: Global, text: &[u8], line: Span) -> Result<SpanList, NoMemory>
+fn tokens(alloc: Global, text: &[u8], line: Span) -> Result<Items<Span>, NoMemory>
     requires { IsWithin text.now line }
     ensures tokens { IfOk result (λ spans. map (bytes_in text.now) spans
         ≡ tokens_of (bytes_in text.now line)) }
     ensures within { IfOk result (λ spans. All (IsWithin text.now) spans) }
 {
     let code = before_comment(text, line);
-    let mut spans = SpanList::new(alloc);
+    let mut spans = Items::new(alloc);
     let mut from = code.from;
     for at in code.from..code.to {
         if is_blank(text[at]) {
@@ -85,11 +82,11 @@ fn tokens(alloc: Global, text: &[u8], line: Span) -> Result<SpanList, NoMemory>
 }
 
 /// Adds a part between blanks, unless it is empty.
-fn add_token(spans: &mut SpanList, part: Span) -> Result<(), NoMemory>
+fn add_token(spans: &mut Items<Span>, part: Span) -> Result<(), NoMemory>
     ensures { OnOk result (spans.new ≡ spans.old ++ unless_empty part) }
 {
     if part.from < part.to {
-        spans.push(part).map_err(|_| NoMemory)?;
+        spans.push(part)?;
     }
     Ok(())
 }

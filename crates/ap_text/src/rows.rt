@@ -4,7 +4,8 @@ ghost use Rattle.ap_text.specs.Lines.{lines_of};
 ghost use Rattle.std.specs.Fmt.{decimal};
 ghost use Rattle.ap_text.specs.Numbers.{hexadecimal, spelled_value};
 
-use crate::{NoMemory, NumberFault, Span, lines, number, put_dec, put_hex};
+use crate::{NumberFault, Span, lines, number, put_dec, put_hex};
+use ap_bits::NoMemory;
 use std::alloc::Global;
 use std::process::Abort;
 use std::test::Fail;

@@ -66,10 +66,10 @@ impl From<DescFault> for ReadFault {
     }
 }
 
-impl From<ap_text::NoMemory> for ReadFault {
+impl From<ap_bits::NoMemory> for ReadFault {
     ghost from_gives = { λ _ given. given ≡ fault.NoMemory };
 
-    fn from(_: ap_text::NoMemory) -> ReadFault {
+    fn from(_: ap_bits::NoMemory) -> ReadFault {
         ReadFault::NoMemory
     }
 }
