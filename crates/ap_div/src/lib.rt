@@ -9,8 +9,3 @@ pub mod difference;
 pub mod quotient;
 
 pub use quotient::Div;
-
-#[cfg(test)]
-mod rows;
-#[cfg(test)]
-mod tests;

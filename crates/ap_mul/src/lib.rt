@@ -9,8 +9,3 @@ pub mod product;
 pub mod sum;
 
 pub use product::Mul;
-
-#[cfg(test)]
-mod rows;
-#[cfg(test)]
-mod tests;

@@ -12,4 +12,3 @@ pub mod FormUnit
 pub mod Behaviour
 pub mod Sure
 pub mod Additions
-pub mod TestValues

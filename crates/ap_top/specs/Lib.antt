@@ -16,4 +16,3 @@ pub mod Endings
 pub mod Troubles
 pub mod Generate
 pub mod Example
-pub mod TestCards

@@ -13,5 +13,3 @@ pub mod pattern;
 mod printing;
 pub mod refusal;
 pub mod serve;
-#[cfg(test)]
-mod tests;

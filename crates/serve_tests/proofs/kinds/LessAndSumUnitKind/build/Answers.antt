@@ -1,8 +1,8 @@
 use Rattle.std.proofs.Common.{◌∙◌, refl}
 use Rattle.ap_unit.proofs.Laws.{shown_unit}
-use Rattle.ap_top.specs.TestCards.{less_and_sum_card}
-use Rattle.ap_top.proofs.TestValues.{chosen}
-use Rattle.ap_top.proofs.tests.kinds.LessAndSumUnitKind.build.Goals as goal
+use Rattle.serve_tests.specs.TestCards.{less_and_sum_card}
+use Rattle.serve_tests.proofs.TestValues.{chosen}
+use Rattle.serve_tests.proofs.kinds.LessAndSumUnitKind.build.Goals as goal
 
 pub returns-clause-unit : goal.returns-clause-unit
 returns-clause-unit c =

@@ -1,5 +1,5 @@
 //! The kind's calls against a table, whose values were worked out over whole numbers, apart from this code.
-use crate::Div;
+use ap_div::Div;
 use ap_net::builder::Builder;
 use ap_unit::UnitKind;
 use std::process::Abort;

@@ -1,6 +1,6 @@
 use Rattle.std.proofs.Common.{◌∙◌, refl}
 use Rattle.ap_net.proofs.Laws.{Makes-trans}
-use Rattle.ap_top.proofs.tests.kinds.sum_or_less.Goals as goal
+use Rattle.serve_tests.proofs.kinds.sum_or_less.Goals as goal
 
 pub returns-clause-value : goal.returns-clause-value
 returns-clause-value c = λ read s.

@@ -2,7 +2,7 @@
 ghost use Rattle.std.specs.Prelude.{◌≡◌, ℕ, ◌≤◌, IfOk, OnOk};
 ghost use Rattle.ap_net.specs.Cells.{IsNet};
 ghost use Rattle.ap_net.specs.Draft.{CanFresh, Makes, SettlesDraft};
-ghost use Rattle.ap_top.specs.TestCards.{less_and_sum_card, sum_or_less_value};
+ghost use Rattle.serve_tests.specs.TestCards.{less_and_sum_card, sum_or_less_value};
 
 use ap_bits::{BinOp, NoMemory, binary};
 use ap_net::builder::Builder;

@@ -2,7 +2,7 @@
 use Rattle.std.proofs.Common.{◌≡◌, ℕ, zero, suc, ◌+◌, ◌-◌, ◌%◌, ◌^◌, ◌<◌, refl, sym, arith}
 use Rattle.ap_bits.proofs.TermValues.{term_values}
 use Rattle.ap_bits.specs.Cards.{operation_value}
-use Rattle.ap_top.specs.TestCards.{less_and_sum_card, sum_or_less_value}
+use Rattle.serve_tests.specs.TestCards.{less_and_sum_card, sum_or_less_value}
 
 pub chosen : (w n a b : ℕ) → n < 2 → sum_or_less_value w n a b ≡ operation_value less_and_sum_card w n a b
 chosen w zero a b lt = sym (simp term_values)

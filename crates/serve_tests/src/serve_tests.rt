@@ -1,12 +1,10 @@
-mod kinds;
-
-use crate::form::{Form, Judged, ReadFault, judge};
-use crate::serve::serve;
+use crate::kinds::{LessAndSum, empty_shelf, shelf_of};
 use ap_desk::desk::Desk;
 use ap_desk::memory::{DeskCall, MemDesk};
 use ap_desk::sure::SureDesk;
+use ap_top::form::{Form, Judged, ReadFault, judge};
+use ap_top::serve::serve;
 use ap_unit::{Shelf, UnitKind};
-use kinds::{LessAndSum, empty_shelf, shelf_of};
 use std::alloc::{AllocError, Global};
 use std::test::Fail;
 
