@@ -5,10 +5,14 @@
 ghost use Rattle.std.specs.Prelude.{◌≡◌, IfOk};
 ghost use Rattle.ap_unit.specs.Shelves.{boxed_cards_of};
 ghost use Rattle.ap_bits.specs.KindCards.{alu_card, shift_card, count_card, avg_card};
+ghost use Rattle.ap_mul.specs.Products.{mul_card};
+ghost use Rattle.ap_div.specs.Quotients.{div_card};
 ghost use Rattle.asip.specs.Shelf.{program_cards};
 
 use ap_comb::{Alu, Avg, Count, Shift};
 use ap_desk::system::FileDesk;
+use ap_div::Div;
+use ap_mul::Mul;
 use ap_top::serve::serve;
 use ap_unit::{Shelf, UnitKind};
 use std::alloc::{AllocError, Global};
@@ -24,11 +28,15 @@ fn shelf_of(
     shift: Box<dyn UnitKind>,
     count: Box<dyn UnitKind>,
     avg: Box<dyn UnitKind>,
+    mul: Box<dyn UnitKind>,
+    div: Box<dyn UnitKind>,
 ) -> Result<Shelf, AllocError>
     requires alu { card alu ≡ alu_card }
     requires shift { card shift ≡ shift_card }
     requires count { card count ≡ count_card }
     requires avg { card avg ≡ avg_card }
+    requires mul { card mul ≡ mul_card }
+    requires div { card div ≡ div_card }
     ensures { IfOk result (λ shelf. boxed_cards_of card shelf ≡ program_cards) }
 {
     let mut kinds = Vec::new(alloc);
@@ -36,6 +44,8 @@ fn shelf_of(
     kinds.push(shift)?;
     kinds.push(count)?;
     kinds.push(avg)?;
+    kinds.push(mul)?;
+    kinds.push(div)?;
     let shelf = Shelf::new(kinds).unwrap();
     Ok(shelf)
 }
@@ -63,7 +73,9 @@ fn status(rt: &HostRuntime) -> io::Result<u8> {
     let shift: Box<dyn UnitKind> = Box::new(alloc, Shift)?;
     let count: Box<dyn UnitKind> = Box::new(alloc, Count)?;
     let avg: Box<dyn UnitKind> = Box::new(alloc, Avg)?;
-    let shelf = shelf_of(alloc, alu, shift, count, avg)?;
+    let mul: Box<dyn UnitKind> = Box::new(alloc, Mul)?;
+    let div: Box<dyn UnitKind> = Box::new(alloc, Div)?;
+    let shelf = shelf_of(alloc, alu, shift, count, avg, mul, div)?;
     let mut desk = FileDesk::new(rt);
     Ok(serve(alloc, &words, &shelf, &mut desk))
 }
