@@ -5,7 +5,7 @@ use Rattle.std.specs.Char.{is_ascii_alphanumeric}
 use Rattle.std.specs.Str.{IsAscii, IsUtf8}
 use Rattle.std.proofs.lemmas.Str.{IsUtf8-from_ascii}
 use Rattle.std.proofs.lemmas.Bool.Decides.{nat_tests}
-use Rattle.ap_bits.specs.Names.{IsName, starts_with_letter}
+use Rattle.ap_bits.specs.Names.{IsName, starts_with_letter, max_name_bytes}
 
 both_true : (a b : Bool) → (a && b) ≡ true → (a ≡ true) × (b ≡ true)
 both_true true b h = (refl, h)
@@ -22,5 +22,5 @@ alphanumerics_are_ascii (b ∷ bs) h (suc i) = alphanumerics_are_ascii bs (both_
 -- a name is text
 pub IsUtf8-name : (name : List ℕ) → IsName name → IsUtf8 name
 IsUtf8-name name h =
-    let front = both_true (starts_with_letter name && list_all is_ascii_alphanumeric name) (nat_le (length name) 32) h in
+    let front = both_true (starts_with_letter name && list_all is_ascii_alphanumeric name) (nat_le (length name) max_name_bytes) h in
     IsUtf8-from_ascii name (alphanumerics_are_ascii name (both_true (starts_with_letter name) (list_all is_ascii_alphanumeric name) front.0).1)

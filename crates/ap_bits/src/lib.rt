@@ -10,6 +10,7 @@
 pub mod boxed;
 pub mod card;
 pub mod items;
+pub mod limits;
 pub mod memory;
 pub mod name;
 pub mod term;

@@ -5,10 +5,11 @@ ghost use Rattle.ap_bits.specs.Names as names;
 ghost use Rattle.ap_bits.specs.Names.{IsName};
 
 use crate::NoMemory;
+use crate::limits::MAX_NAME_BYTES;
 use std::alloc::Global;
 use std::marker::Model;
 
-/// A name of a description or a program: a letter followed by letters and digits, at most 32 bytes. Contracts see its bytes.
+/// A name of a description or a program: a letter followed by letters and digits, at most [`MAX_NAME_BYTES`] bytes. Contracts see its bytes.
 #[derive(Drop)]
 pub struct Name {
     text: String,
@@ -43,11 +44,11 @@ fn is_alphanumeric(bytes: &[u8]) -> bool
     bytes.iter().all(|byte| byte.is_ascii_alphanumeric())
 }
 
-/// Whether the bytes are a name: a letter followed by letters and digits, at most 32 bytes.
+/// Whether the bytes are a name: a letter followed by letters and digits, at most [`MAX_NAME_BYTES`] bytes.
 pub fn is_name(bytes: &[u8]) -> bool
     ensures { result ≡ names.is_name bytes.now }
 {
-    starts_with_letter(bytes) && is_alphanumeric(bytes) && bytes.len() <= 32
+    starts_with_letter(bytes) && is_alphanumeric(bytes) && bytes.len() <= MAX_NAME_BYTES
 }
 
 impl Name {

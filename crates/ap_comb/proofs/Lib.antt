@@ -6,6 +6,5 @@ pub mod Runs
 pub mod Shifted
 pub mod KindValues
 pub mod Halves
-pub mod NandValues
 pub mod Signs
 pub mod AluResults

@@ -18,12 +18,3 @@ pub use alu::Alu;
 pub use avg::Avg;
 pub use count::Count;
 pub use shift::Shift;
-
-#[cfg(test)]
-mod alu_tests;
-#[cfg(test)]
-mod evaluate;
-#[cfg(test)]
-mod kind_tests;
-#[cfg(test)]
-mod nand;

@@ -18,16 +18,3 @@ pub use description::{Description, Numbered};
 pub use fault::{DescFault, Fault, Refusal};
 pub use statement::{FieldNumber, Statement, Word};
 pub use writing::show;
-
-#[cfg(test)]
-mod description_rows;
-#[cfg(test)]
-mod flow_rows;
-#[cfg(test)]
-mod law_rows;
-#[cfg(test)]
-mod meaning_rows;
-#[cfg(test)]
-mod rows;
-#[cfg(test)]
-mod tests;

@@ -77,8 +77,8 @@ fn guard_text(alloc: Global, guard: &Option<Word>) -> Result<String, NoMemory>
     Ok(text)
 }
 
-/// The line of a statement.
-pub(crate) fn line_of(alloc: Global, statement: &Statement) -> Result<String, NoMemory>
+/// The line of a statement, with the line feed that ends it. It fails only where memory runs out.
+pub fn line_of(alloc: Global, statement: &Statement) -> Result<String, NoMemory>
     ensures { IfOk result (λ line. string_bytes line ≡ shown_line statement.now) }
 {
     match statement {

@@ -12,6 +12,10 @@ use Rattle.ap_image.specs.declared.row.Write.{Write}
 abbrev pub file_label : List ℕ → ℕ → List ℕ
 file_label name port = name ++ codes "." ++ decimal port
 
+-- the label of this group or memory
+abbrev pub label_of : List (List ℕ) → ℕ → List ℕ
+label_of labels group = unwrap_or (slice_get labels group) []
+
 -- the state of a cycle. A stranger's netlist may show both at once
 abbrev pub state_text : Bool → Bool → List ℕ
 state_text false false = codes "run"
@@ -26,7 +30,7 @@ index_text (Some index) = codes "[" ++ decimal index ++ codes "]"
 
 -- a write: a space, its label, its index and its value
 abbrev pub write_text : List (List ℕ) → Write → List ℕ
-write_text labels write = codes " " ++ unwrap_or (slice_get labels write.group) [] ++ index_text write.index ++ codes "=" ++ decimal write.value
+write_text labels write = codes " " ++ label_of labels write.group ++ index_text write.index ++ codes "=" ++ decimal write.value
 
 -- the line of the row of this cycle
 abbrev pub row_text : List (List ℕ) → ℕ → Row → List ℕ

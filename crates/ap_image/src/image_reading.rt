@@ -139,26 +139,15 @@ fn name_rules(mems: &[MemShape])
     }
 }
 
-/// A list of these items.
-fn listed(alloc: Global, items: Vec<Items<u64>>) -> Result<Items<Items<u64>>, NoMemory>
-    ensures { IfOk result (λ list. list ≡ items.items) }
-{
-    let mut list = Items::new(alloc);
-    for item in items {
-        list.push(item)?;
-    }
-    Ok(list)
-}
-
 /// The image that the reader's words are.
-fn finish(alloc: Global, so_far: SoFar) -> Result<Image, NoMemory>
+fn finish(so_far: SoFar) -> Image
     requires { 0 < length so_far.words.items }
-    ensures { IfOk result (λ image. image.code ∷ image.mems ≡ so_far.words.items) }
+    ensures { result.code ∷ result.mems ≡ so_far.words.items }
 {
     let mut words = so_far.words;
     let code = words.remove(0);
-    let mems = listed(alloc, words)?;
-    Ok(Image { code, mems })
+    let mems = Items::of(words);
+    Image { code, mems }
 }
 
 /// Reads a text that isn't too long.
@@ -171,8 +160,7 @@ fn read_short(alloc: Global, text: &[u8], shape: &Shape) -> Result<Image, TextFa
 {
     let list = lines(alloc, text)?;
     let so_far = read_lines(alloc, shape, text, list.as_slice())?;
-    let image = finish(alloc, so_far)?;
-    Ok(image)
+    Ok(finish(so_far))
 }
 
 /// Reads the text of an image: the words of the code memory and of the data memories of the shape.

@@ -14,8 +14,3 @@ pub mod storage;
 pub use sequence::{Pending, Progress};
 pub use state::{Entry, Flight, InputRead, Pass, Sample, StageEffect, State};
 pub use storage::{PortWrite, Storage, Storages, WritePort};
-
-#[cfg(test)]
-mod rows;
-#[cfg(test)]
-mod tests;

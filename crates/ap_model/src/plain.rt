@@ -2,7 +2,6 @@
 //! are compared with it.
 
 mod cycle;
-mod lists;
 mod ports;
 mod run;
 mod scene;
@@ -11,6 +10,4 @@ mod stalls;
 mod storages;
 mod values;
 
-#[cfg(test)]
-pub(crate) use lists::copied;
 pub use run::rows;

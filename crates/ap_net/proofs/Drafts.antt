@@ -162,7 +162,7 @@ IsOpenOrder-agree nets modules assigns assigns' instances rank after parts decla
       };
 }
 
-made-extends : (a : Draft) (net : ModuleNet) (c : Cell) → Extends a (made a net c)
+pub made-extends : (a : Draft) (net : ModuleNet) (c : Cell) → Extends a (made a net c)
 made-extends a net c = record { name = refl; nets = (net ∷ [], refl); assigns = (record { to = record { number = length a.nets; width = net.width }; cell = c } ∷ [], refl); nexts = ([], sym (append-nil a.nexts)); instances = ([], sym (append-nil a.instances)) }
 
 -- to make a net with a cell over declared nets adds a piece of circuit

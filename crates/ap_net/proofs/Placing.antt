@@ -19,10 +19,10 @@ use Rattle.ap_net.specs.Names.{IsNew, IsNotNumbered, HasFresh, numbered}
 use Rattle.ap_net.specs.Cells.{IsNet, operands}
 use Rattle.ap_net.specs.Wiring.{IsSource, IsFree, IsWired, IsConnected, IsOrdered, Undriven, Unjoined, NoneTwice, Ranked, driven_among, driven_by, names_taken, taken_names, reset_of}
 use Rattle.ap_net.specs.Modules.{ModuleText, IsInstanceIn, nets_of, outputs, module_named, port_by, ports_among}
-use Rattle.ap_net.specs.Opened.{SolvesPart, OrdersPart, Follows, IsOpenOrder, AreOrdered}
+use Rattle.ap_net.specs.Opened.{OrdersPart, Follows, IsOpenOrder, AreOrdered}
 use Rattle.ap_net.specs.Draft.{Draft, Extends, OpensOn, Opens, GrowsUp, Adds, Closes, Makes, SettlesOpen, names_of, wire_count, is_wire}
 use Rattle.ap_net.specs.Placing.{Places, output_widths, input_widths, wires_from, fresh_nets, merged, output_wires, placed_instance, with_placed}
-use Rattle.ap_net.proofs.Lists.{All-join, All-front, All-back, All-from, All-both, get_left, get_end, get_either, some_same}
+use Rattle.ap_net.proofs.Lists.{All-join, All-front, All-back, All-from, All-both, get_left, get_either, some_same}
 use Rattle.ap_net.proofs.Wired.{IsNet-more, IsNet-end, number-IsNet, declared}
 use Rattle.ap_net.proofs.Connected.{driven_by-append, driven_within}
 use Rattle.ap_net.proofs.Drafts.{Settles-before, IsOpenOrder-agree, Adds-trans, Closes-trans, one_more_net}
@@ -468,17 +468,6 @@ module _ (d : Draft) (name : List ℕ) (m : ModuleText) (inputs : List Wire) (wi
 
   pub placed-ports : ports_among (d.nets ++ more) ≡ ports_among d.nets
   placed-ports = filter_map-append (λ (net : ModuleNet). port_by net.role net) d.nets more ∙ ap (λ l. ports_among d.nets ++ l) (no_ports (wire_count d.nets) widths) ∙ append-nil (ports_among d.nets)
-
-  -- what solves the whole solves what was there, and the part solves the module
-  pub placed-value : (modules : List ModuleText) (read : ℕ → ℕ) (parts : ℕ → ℕ → ℕ) → SettlesOpen modules new read parts
-      → SettlesOpen modules d read parts × (module_named modules m.name ≡ Some m → SolvesPart m placed read (parts (length d.instances)))
-  placed-value modules read parts s = (
-    record {
-      own = Settles-before d new read extends (record { fits = (s.own).fits; holds = (s.own).holds });
-      each = λ k i x at found. s.each k i x (get_left d.instances (placed ∷ []) k i at) found;
-    },
-    λ found. s.each (length d.instances) placed m (get_end d.instances placed) found,
-  )
 
 -- Names. -----------------------------------------------------------------------------------------------------------------
 

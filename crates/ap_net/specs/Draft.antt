@@ -49,6 +49,10 @@ pub record IsDraft (d : Draft) (count : ℕ) : Type 0 where
   pub alone : d.name ≢ codes "top" → d.instances ≡ []
   pub wires : count ≡ wire_count d.nets
 
+-- its rules, whatever the number of its wires
+abbrev pub IsKept : Draft → Type 0
+IsKept d = IsDraft d (wire_count d.nets)
+
 abbrev pub draft_of : List ℕ → List ModuleNet → List Assign → List Next → List Instance → Draft
 draft_of name nets assigns nexts instances = record { name = name; nets = nets; assigns = assigns; nexts = nexts; instances = instances }
 
@@ -69,6 +73,9 @@ with_fresh d width = with_net d (numbered (wire_count d.nets)) width role.Plain
 -- with one more assign, driver of a register, or instance
 abbrev pub with_assign : Draft → Wire → Cell → Draft
 with_assign d to cell = record d { assigns = d.assigns ++ record { to = to; cell = cell } ∷ [] }
+
+abbrev pub with_made : Draft → ℕ → Cell → Draft
+with_made d width cell = with_assign (with_fresh d width) (next_wire d width) cell
 
 abbrev pub with_next : Draft → Wire → Wire → Draft
 with_next d register from = record d { nexts = d.nexts ++ record { register = register; from = from } ∷ [] }

@@ -1,14 +1,17 @@
 ghost use Rattle.std.specs.Prelude.{◌≡◌, ℕ, ◌+◌, ◌<◌, ◌≤◌, ◌∷◌, ◌++◌, [], List, length, map, codes, OnOk, OnErr, IfOk, ◌^◌, slice_get, Some, if◌then◌else◌};
 ghost use Rattle.std.specs.List.{AllByRecursion as Each};
 ghost use Rattle.ap_net.specs.Names.{IsNetName, IsNew, IsNotNumbered, numbered};
-ghost use Rattle.ap_net.specs.Cells.{IsNet, CellFits, cell_value};
+ghost use Rattle.ap_net.specs.Cells.{IsNet, CellFits, cell_value, operands};
 ghost use Rattle.ap_net.specs.Wiring.{IsFree, reset_of, NextFits, IsDriven, Undriven, Unjoined, Unclocked, NoneTwice, driven_among};
 ghost use Rattle.ap_net.specs.declared.net.Port.{Port};
 ghost use Rattle.ap_net.specs.Modules.{ModuleText, ports_among, outputs, instance_of, module_named, Connects};
 ghost use Rattle.ap_net.specs.Opened.{SolvesPart};
 ghost use Rattle.ap_net.specs.Placing.{Places, output_widths, input_widths, wires_from, merged, output_wires, instance_in, with_outputs, with_placed};
 ghost use Rattle.ap_net.specs.Finished.{IsFinished};
-ghost use Rattle.ap_net.specs.Draft.{Adds, Closes, Makes, CanFresh, KeepsFresh, KeepsNew, Means, SettlesOpen, blank, with_net, with_fresh, with_assign, with_next, with_instance, next_wire, names_of, is_plain, wire_count};
+ghost use Rattle.ap_net.specs.Readings.{Always, Carries};
+ghost use Rattle.ap_net.specs.Ready.{numbers};
+ghost use Rattle.ap_net.specs.Late.{IsLate, IsLateUnlessSource, StayLate, Reads, Drives, Joins};
+ghost use Rattle.ap_net.specs.Draft.{IsKept, Adds, Closes, Makes, CanFresh, KeepsFresh, KeepsNew, Means, blank, with_net, with_fresh, with_made, with_assign, with_next, with_instance, next_wire, names_of, is_plain, wire_count};
 
 use crate::NoMemory;
 use crate::cell::{Cell, Wire};
@@ -61,21 +64,17 @@ impl Builder {
         })
     }
 
+    /// What every module that is being built keeps, as a fact that callers can use.
+    pub fn rules(&self)
+        ensures { IsKept self.now }
+    {
+        let _ = &self.nets;
+    }
+
     /// The allocator from which the builder has its memory, for pieces of circuit that need some of their own.
     pub fn allocator(&self) -> Global {
         self.alloc
     }
-}
-
-/// The nets in a list.
-fn listed(alloc: Global, nets: &[Wire]) -> Result<Items<Wire>, NoMemory>
-    ensures { IfOk result (λ list. list ≡ nets.now) }
-{
-    let mut list = Items::new(alloc);
-    for net in nets {
-        list.push(*net)?;
-    }
-    Ok(list)
 }
 
 /// Which of these ports are outputs.
@@ -137,8 +136,11 @@ impl Builder {
         ensures ok { OnOk result (self.new ≡ with_net self.old name width role) }
         ensures wire { IfOk result (λ w. w ≡ next_wire self.old width) }
         ensures adds { OnOk result (Adds self.old self.new) }
+        ensures stay { OnOk result (StayLate self.old self.new) }
+        ensures late { OnOk result (IsLateUnlessSource role self.new (next_wire self.old width)) }
         ensures named { OnOk result (KeepsFresh name self.old self.new) }
-        ensures numbered { OnOk result (name ≡ numbered (wire_count self.old.nets) → role ≡ Role.Plain
+        ensures numbered { OnOk result (name ≡ numbered (wire_count self.old.nets)
+            → role ≡ Role.Plain
             → CanFresh self.old → CanFresh self.new) }
         ensures err { OnErr result (self.new ≡ self.old) }
     {
@@ -159,6 +161,8 @@ impl Builder {
         ensures ok { OnOk result (self.new ≡ with_net self.old name.now width role) }
         ensures wire { IfOk result (λ w. w ≡ next_wire self.old width) }
         ensures adds { OnOk result (Adds self.old self.new) }
+        ensures stay { OnOk result (StayLate self.old self.new) }
+        ensures late { OnOk result (IsLateUnlessSource role self.new (next_wire self.old width)) }
         ensures fresh { OnOk result (KeepsFresh name.now self.old self.new) }
         ensures err { OnErr result (self.new ≡ self.old) }
     {
@@ -190,13 +194,14 @@ impl Builder {
         ensures ok { OnOk result (self.new ≡ with_net self.old name.now width Role.Input) }
         ensures wire { IfOk result (λ w. w ≡ next_wire self.old width) }
         ensures adds { OnOk result (Adds self.old self.new) }
+        ensures stay { OnOk result (StayLate self.old self.new) }
         ensures fresh { OnOk result (KeepsFresh name.now self.old self.new) }
         ensures err { OnErr result (self.new ≡ self.old) }
     {
         self.named(name, width, Role::Input)
     }
 
-    /// Declares an output port.
+    /// Declares an output port, which is driven later.
     pub fn output(&mut self, name: &[u8], width: u32) -> Result<Wire, NoMemory>
         requires is_name { IsNetName name.now }
         requires name { IsNew name.now (names_of self.old) }
@@ -205,13 +210,15 @@ impl Builder {
         ensures ok { OnOk result (self.new ≡ with_net self.old name.now width Role.Output) }
         ensures wire { IfOk result (λ w. w ≡ next_wire self.old width) }
         ensures adds { OnOk result (Adds self.old self.new) }
+        ensures stay { OnOk result (StayLate self.old self.new) }
+        ensures late { OnOk result (IsLate self.new (next_wire self.old width)) }
         ensures fresh { OnOk result (KeepsFresh name.now self.old self.new) }
         ensures err { OnErr result (self.new ≡ self.old) }
     {
         self.named(name, width, Role::Output)
     }
 
-    /// Declares a wire of this name.
+    /// Declares a wire of this name, which is driven later.
     pub fn wire(&mut self, name: &[u8], width: u32) -> Result<Wire, NoMemory>
         requires is_name { IsNetName name.now }
         requires name { IsNew name.now (names_of self.old) }
@@ -220,6 +227,8 @@ impl Builder {
         ensures ok { OnOk result (self.new ≡ with_net self.old name.now width Role.Plain) }
         ensures wire { IfOk result (λ w. w ≡ next_wire self.old width) }
         ensures adds { OnOk result (Adds self.old self.new) }
+        ensures stay { OnOk result (StayLate self.old self.new) }
+        ensures late { OnOk result (IsLate self.new (next_wire self.old width)) }
         ensures fresh { OnOk result (KeepsFresh name.now self.old self.new) }
         ensures err { OnErr result (self.new ≡ self.old) }
     {
@@ -233,23 +242,25 @@ impl Builder {
         requires low { 1 ≤ width }
         requires high { width ≤ 64 }
         requires reset { reset < 2 ^ width }
-        ensures ok { OnOk result (self.new ≡ with_net self.old name.now width (Role.Register reset)) }
+        ensures ok { OnOk result (self.new
+            ≡ with_net self.old name.now width (Role.Register reset)) }
         ensures wire { IfOk result (λ w. w ≡ next_wire self.old width) }
         ensures adds { OnOk result (Adds self.old self.new) }
+        ensures stay { OnOk result (StayLate self.old self.new) }
         ensures fresh { OnOk result (KeepsFresh name.now self.old self.new) }
         ensures err { OnErr result (self.new ≡ self.old) }
     {
         self.named(name, width, Role::Register(reset))
     }
 
-    /// Drives a wire or output that isn't driven yet.
+    /// Drives a wire or output that was declared earlier.
     pub fn cell(&mut self, to: Wire, cell: Cell) -> Result<(), NoMemory>
-        requires net { IsNet self.old.nets to }
+        requires late { IsLate self.old to }
         requires fits { CellFits self.old.nets to.width cell }
-        requires free { IsFree self.old.nets to.number }
-        requires undriven { Undriven self.old.assigns to.number }
-        requires unjoined { Unjoined self.old.instances to.number }
         ensures ok { OnOk result (self.new ≡ with_assign self.old to cell) }
+        ensures value { OnOk result (Always self.new (λ r. r.read to.number
+            ≡ cell_value r.read to.width cell)) }
+        ensures drives { OnOk result (Drives (numbers (operands cell)) to self.old self.new) }
         ensures err { OnErr result (self.new ≡ self.old) }
     {
         self.assigns.push(Assign { to, cell })?;
@@ -261,6 +272,7 @@ impl Builder {
         requires fits { NextFits self.old.nets (record { register = register; from = from }) }
         requires unclocked { Unclocked self.old.nexts register.number }
         ensures ok { OnOk result (self.new ≡ with_next self.old register from) }
+        ensures stay { OnOk result (StayLate self.old self.new) }
         ensures err { OnErr result (self.new ≡ self.old) }
     {
         self.nexts.push(Next { register, from })?;
@@ -276,8 +288,10 @@ impl Builder {
         requires widths { map (λ w. w.width) nets.now ≡ map (λ p. p.width) whole.now.ports }
         requires nets { Each (IsNet self.old.nets) nets.now }
         requires free { Each (IsFree self.old.nets) (driven_among (outputs whole.now) nets.now) }
-        requires undriven { Each (Undriven self.old.assigns) (driven_among (outputs whole.now) nets.now) }
-        requires unjoined { Each (Unjoined self.old.instances) (driven_among (outputs whole.now) nets.now) }
+        requires undriven { Each (Undriven self.old.assigns)
+            (driven_among (outputs whole.now) nets.now) }
+        requires unjoined { Each (Unjoined self.old.instances)
+            (driven_among (outputs whole.now) nets.now) }
         requires apart { NoneTwice (driven_among (outputs whole.now) nets.now) }
         ensures ok { OnOk result (self.new ≡ with_instance self.old
             (instance_of name.now whole.now nets.now)) }
@@ -285,7 +299,7 @@ impl Builder {
     {
         let name = NetName::new(self.alloc, name)?;
         let module_name = whole.name().copy(self.alloc)?;
-        let nets = listed(self.alloc, nets)?;
+        let nets = Items::copy_of(self.alloc, nets)?;
         let drives = outputs_of(self.alloc, whole.ports())?;
         self.instances.push(Instance {
             name,
@@ -316,7 +330,8 @@ impl Builder {
         requires fresh { CanFresh self.old }
         requires widths { Each (λ (p : Port). (1 ≤ p.width) × (p.width ≤ 64)) ports.now }
         ensures ok { OnOk result (self.new ≡ with_outputs self.old ports.now) }
-        ensures outputs { IfOk result (λ outs. outs ≡ wires_from (length self.old.nets) (output_widths ports.now)) }
+        ensures outputs { IfOk result (λ outs. outs
+            ≡ wires_from (length self.old.nets) (output_widths ports.now)) }
         ensures fresh { OnOk result (CanFresh self.new) }
         ensures names { OnOk result (KeepsNew self.old self.new) }
     {
@@ -330,10 +345,10 @@ impl Builder {
         Ok(outputs)
     }
 
-    /// Places an instance of a finished module over ready nets: these are connected to the module's inputs, in order, and a
-    /// fresh wire is made for each of its outputs. Answers these wires, in order. In a netlist with this module, the
-    /// instance's part of each solution solves the module, and each port equals the net that it is connected to. After an
-    /// error the builder is good for nothing but to be dropped.
+    /// Places an instance of a finished module over declared nets, which may be driven later: these are connected to the
+    /// module's inputs, in order, and a fresh wire is made for each of its outputs. Answers these wires, in order. In a
+    /// netlist the instance's part of each solution solves the module of its name, and each port equals the net that it is
+    /// connected to. After an error the builder is good for nothing but to be dropped.
     pub fn place(
         &mut self,
         name: &[u8],
@@ -348,16 +363,20 @@ impl Builder {
         requires widths { map (λ w. w.width) inputs.now ≡ input_widths whole.now.ports }
         requires nets { Each (IsNet self.old.nets) inputs.now }
         ensures ok { OnOk result (self.new ≡ with_placed self.old name.now whole.now inputs.now) }
-        ensures outputs { IfOk result (λ outs. outs ≡ output_wires (length self.old.nets) whole.now) }
+        ensures outputs { IfOk result (λ outs. outs
+            ≡ output_wires (length self.old.nets) whole.now) }
         ensures nets { IfOk result (λ outs. Each (IsNet self.new.nets) outs) }
-        ensures value { OnOk result ((modules : List ModuleText) (read : ℕ → ℕ) (parts : ℕ → ℕ → ℕ)
-            → SettlesOpen modules self.new read parts → SettlesOpen modules self.old read parts
-            × (module_named modules whole.now.name ≡ Some whole.now
-            → SolvesPart whole.now (instance_in self.old name.now whole.now inputs.now) read
-            (parts (length self.old.instances)))) }
-        ensures places { OnOk result (Places (instance_in self.old name.now whole.now inputs.now ∷ [])
+        ensures part { OnOk result (Always self.new (λ r. (m : ModuleText)
+            → module_named r.modules whole.now.name ≡ Some m
+            → SolvesPart m (instance_in self.old name.now whole.now inputs.now) r.read
+            (r.parts (length self.old.instances)))) }
+        ensures joins { OnOk result
+            (Joins (instance_in self.old name.now whole.now inputs.now) self.old self.new) }
+        ensures places { OnOk result
+            (Places (instance_in self.old name.now whole.now inputs.now ∷ [])
             self.old self.new) }
-        ensures connects { OnOk result (Connects whole.now (instance_in self.old name.now whole.now inputs.now)) }
+        ensures connects { OnOk result
+            (Connects whole.now (instance_in self.old name.now whole.now inputs.now)) }
     {
         whole.rules();
         let alloc = self.alloc;
@@ -373,9 +392,14 @@ impl Builder {
         requires low { 1 ≤ width }
         requires high { width ≤ 64 }
         requires fits { CellFits self.old.nets width cell }
+        ensures ok { OnOk result (self.new ≡ with_made self.old width cell) }
+        ensures wire { IfOk result (λ w. w ≡ next_wire self.old width) }
         ensures net { IfOk result (λ w. IsNet self.new.nets w × (w.width ≡ width)) }
         ensures value { IfOk result (λ w. Means self.old self.new (λ read.
             read w.number ≡ cell_value read width cell)) }
+        ensures carries { IfOk result (Carries self.new width (λ r x. x
+            ≡ cell_value r.read width cell)) }
+        ensures reads { OnOk result (Reads (numbers (operands cell)) self.old self.new) }
         ensures makes { OnOk result (Makes self.old self.new) }
     {
         let _ = &self.nets;
@@ -394,9 +418,13 @@ impl Builder {
         ensures net { IfOk result (λ w. IsNet self.new.nets w × (w.width ≡ width)) }
         ensures there { IfOk result (λ w. slice_get self.new.nets w.number
             ≡ Some (record { name = name.now; width = width; role = Role.Output })) }
-        ensures nets { OnOk result (self.new.nets ≡ (with_net self.old name.now width Role.Output).nets) }
+        ensures nets { OnOk result (self.new.nets
+            ≡ (with_net self.old name.now width Role.Output).nets) }
         ensures value { IfOk result (λ w. Means self.old self.new (λ read.
             read w.number ≡ cell_value read width cell)) }
+        ensures carries { IfOk result (Carries self.new width (λ r x. x
+            ≡ cell_value r.read width cell)) }
+        ensures reads { OnOk result (Reads (numbers (operands cell)) self.old self.new) }
         ensures adds { OnOk result (Adds self.old self.new) }
         ensures closes { OnOk result (Closes self.old self.new) }
         ensures instances { OnOk result (self.new.instances ≡ self.old.instances) }

@@ -165,7 +165,8 @@ fn places_of(
     requires ports { ports ≡ port_count nets.now }
     requires wires { wires ≡ wire_count nets.now }
     ensures length { IfOk result (λ places. length places.items ≡ length nets.now) }
-    ensures each { IfOk result (λ places. (n : ℕ) (net : ModuleNet) → slice_get nets.now n ≡ Some net
+    ensures each { IfOk result (λ places. (n : ℕ) (net : ModuleNet)
+        → slice_get nets.now n ≡ Some net
         → slice_index places.items n ≡ place_by net.role nets.now n) }
 {
     let mut places = Vec::new(alloc);
@@ -222,7 +223,8 @@ fn assigns_under(
     requires results { Each (λ (a : Assign). a.to.number < length places.now) assigns.now }
     requires operands { Each (λ (a : Assign).
         Each (λ (o : Wire). o.number < length places.now) (operands a.cell)) assigns.now }
-    ensures { IfOk result (λ made. made.items ≡ map (assign_placed (slice_index places.now)) assigns.now) }
+    ensures { IfOk result (λ made. made.items
+        ≡ map (assign_placed (slice_index places.now)) assigns.now) }
 {
     let mut made = Vec::new(alloc);
     for assign in assigns {
@@ -237,7 +239,8 @@ fn assigns_under(
 fn nexts_under(alloc: Global, nexts: &[Next], places: &[usize]) -> Result<Vec<Next>, NoMemory>
     requires registers { Each (λ (x : Next). x.register.number < length places.now) nexts.now }
     requires froms { Each (λ (x : Next). x.from.number < length places.now) nexts.now }
-    ensures { IfOk result (λ made. made.items ≡ map (next_placed (slice_index places.now)) nexts.now) }
+    ensures { IfOk result (λ made. made.items
+        ≡ map (next_placed (slice_index places.now)) nexts.now) }
 {
     let mut made = Vec::new(alloc);
     for next in nexts {
@@ -260,17 +263,6 @@ fn nets_under(alloc: Global, nets: &[Wire], places: &[usize]) -> Result<Items<Wi
     Ok(made)
 }
 
-/// The list once more.
-fn copied(alloc: Global, flags: &[bool]) -> Result<Items<bool>, NoMemory>
-    ensures { IfOk result (λ made. made ≡ flags.now) }
-{
-    let mut made = Items::new(alloc);
-    for flag in flags {
-        made.push(*flag)?;
-    }
-    Ok(made)
-}
-
 /// The instance over the numbers of the finished module.
 fn instance_under(
     alloc: Global,
@@ -283,7 +275,7 @@ fn instance_under(
     let name = instance.name.copy(alloc)?;
     let module = instance.module.copy(alloc)?;
     let nets = nets_under(alloc, instance.nets.as_slice(), places)?;
-    let drives = copied(alloc, instance.drives.as_slice())?;
+    let drives = Items::copy_of(alloc, instance.drives.as_slice())?;
     Ok(Instance {
         name,
         module,
@@ -319,10 +311,12 @@ pub(crate) fn finished(
     nexts: &[Next],
     instances: &[Instance],
 ) -> Result<Module, NoMemory>
-    requires draft { IsDraft (draft_of name nets.now assigns.now nexts.now instances.now) (wire_count nets.now) }
+    requires draft { IsDraft (draft_of name nets.now assigns.now nexts.now instances.now)
+        (wire_count nets.now) }
     requires driven { IsDriven nets.now assigns.now nexts.now instances.now }
     requires port { 0 < length (ports_among nets.now) }
-    ensures { IfOk result (IsFinished (draft_of name nets.now assigns.now nexts.now instances.now)) }
+    ensures { IfOk result
+        (IsFinished (draft_of name nets.now assigns.now nexts.now instances.now)) }
 {
     let ports = ports_of(alloc, nets)?;
     let wires = wires_of(alloc, nets)?;

@@ -7,10 +7,8 @@ mod finish;
 pub mod module;
 pub mod name;
 pub mod net;
+pub mod readiness;
 pub mod solve;
 pub mod write;
 
 pub use ap_bits::NoMemory;
-
-#[cfg(test)]
-mod tests;

@@ -137,8 +137,10 @@ fn put_assign(
     out: &mut Vec<u8>,
 ) -> Result<(), NoMemory>
     requires to { assign.to.number < length (nets_of whole.now) }
-    requires operands { Each (λ (o : Wire). o.number < length (nets_of whole.now)) (operands assign.cell) }
-    ensures ok { OnOk result (out.new.items ≡ out.old.items ++ assign_line (nets_of whole.now) assign) }
+    requires operands { Each (λ (o : Wire). o.number < length (nets_of whole.now))
+        (operands assign.cell) }
+    ensures ok { OnOk result (out.new.items
+        ≡ out.old.items ++ assign_line (nets_of whole.now) assign) }
     ensures err { OnErr result (out.new.items ≡ out.old.items) }
 {
     let to = whole.net_name(assign.to.number);
@@ -166,7 +168,8 @@ fn clocked_string(alloc: Global, at_reset: &str, at_edge: &str) -> Result<String
 fn put_next(alloc: Global, whole: &Module, next: Next, out: &mut Vec<u8>) -> Result<(), NoMemory>
     requires register { next.register.number < length (nets_of whole.now) }
     requires from { next.from.number < length (nets_of whole.now) }
-    ensures ok { OnOk result (out.new.items ≡ out.old.items ++ always_line (nets_of whole.now) next) }
+    ensures ok { OnOk result (out.new.items
+        ≡ out.old.items ++ always_line (nets_of whole.now) next) }
     ensures err { OnErr result (out.new.items ≡ out.old.items) }
 {
     let q = whole.net_name(next.register.number);
@@ -241,7 +244,8 @@ fn put_nexts(
     nexts: &[Next],
     out: &mut Vec<u8>,
 ) -> Result<(), NoMemory>
-    requires registers { Each (λ (x : Next). x.register.number < length (nets_of whole.now)) nexts.now }
+    requires registers { Each
+        (λ (x : Next). x.register.number < length (nets_of whole.now)) nexts.now }
     requires froms { Each (λ (x : Next). x.from.number < length (nets_of whole.now)) nexts.now }
     ensures { OnOk result (out.new.items
         ≡ out.old.items ++ flat_map (always_line (nets_of whole.now)) nexts.now) }
@@ -311,7 +315,8 @@ fn put_instance(
     instance: &Instance,
     out: &mut Vec<u8>,
 ) -> Result<(), NoMemory>
-    requires same { length instance.now.nets ≡ length (ports_in (module_named modules.now instance.now.module)) }
+    requires same { length instance.now.nets
+        ≡ length (ports_in (module_named modules.now instance.now.module)) }
     requires nets { Each (λ (w : Wire). w.number < length (nets_of whole.now)) instance.now.nets }
     ensures { OnOk result (out.new.items
         ≡ out.old.items ++ instance_line modules.now (nets_of whole.now) instance.now) }

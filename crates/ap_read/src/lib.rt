@@ -17,6 +17,3 @@ mod token;
 
 pub use ap_desc::limits::DESCRIPTION_LIMIT;
 pub use reading::read;
-
-#[cfg(test)]
-mod tests;

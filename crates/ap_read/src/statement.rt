@@ -38,6 +38,3 @@ fn spelled(alloc: Global, tokens: &[&[u8]]) -> Result<Statement, Unread>
         Err(_) => declaration(alloc, first, rest),
     }
 }
-
-#[cfg(test)]
-mod tests;

@@ -1,5 +1,5 @@
 -- The beginning of a unit that makes a step a cycle, and how it goes on as fresh wires are made.
-use Rattle.std.proofs.Common.{◌≡◌, ℕ, suc, zero, ◌+◌, ◌-◌, ◌*◌, ◌^◌, ◌<◌, ◌≤◌, lit≤, ⊎_elim, List, [], ◌∷◌, ◌++◌, map, Some, refl, sym, ap, subst, ◌∙◌, arith}
+use Rattle.std.proofs.Common.{◌≡◌, ℕ, ◌+◌, ◌-◌, ◌*◌, ◌^◌, ◌<◌, ◌≤◌, lit≤, ⊎_elim, List, Some, refl, sym, ap, subst, ◌∙◌, arith}
 use Rattle.std.specs.Prelude.{slice_get, codes, ◌==◌, if◌then◌else◌, Bool, true, false}
 use Rattle.std.specs.Int.Count.{count_leading_zeros}
 use Rattle.std.proofs.lemmas.Nat.{leading_length}
@@ -10,9 +10,11 @@ use Rattle.ap_net.specs.declared.net.ModuleNet.{ModuleNet}
 use Rattle.ap_net.specs.declared.net.Role.TheVariants as role
 use Rattle.ap_net.specs.declared.cell.TwoOp.TheVariants.{And}
 use Rattle.ap_net.specs.declared.cell.Cell.TheVariants as cell
-use Rattle.ap_net.specs.Cells.{CellFits, IsNet}
-use Rattle.ap_net.specs.Wiring.{IsRegister, reset_of}
+use Rattle.ap_net.specs.Cells.{CellFits}
+use Rattle.ap_net.specs.Wiring.{IsRegister, IsSource, reset_of}
 use Rattle.ap_net.specs.Draft.{Draft, Makes, with_assign}
+use Rattle.ap_net.specs.Late.{IsLate}
+use Rattle.ap_net.proofs.Lists.{some_same}
 use Rattle.ap_net.proofs.Laws.{IsNet-Makes, Makes-refl, Makes-trans, net-Adds}
 use Rattle.ap_unit.specs.declared.stepper.Pair.{Pair}
 use Rattle.ap_unit.specs.declared.stepper.Ports.{Ports}
@@ -106,12 +108,17 @@ HoldsStepper-Makes a b unit makes h = record {
       Makes-trans (with_stepper b.name unit.a.width unit.count.width) a b begins makes;
 }
 
--- once busy is driven, y is there as before, and its cell fits
+-- once busy is driven, y still isn't, and its cell fits
 abbrev with_busy : List ℕ → ℕ → ℕ → Draft
 with_busy name w k = with_assign (with_limit name w k) (wire 5 1) (cell.Two And (wire 3 1) (wire 11 1))
 
-pub net_y : (name : List ℕ) (w k : ℕ) → 1 ≤ w → w ≤ 64 → IsNet (with_busy name w k).nets (wire 6 w)
-net_y name w k low high = record { declared = refl; low = low; high = high }
+pub late_y : (name : List ℕ) (w k : ℕ) → 1 ≤ w → w ≤ 64 → IsLate (with_busy name w k) (wire 6 w)
+late_y name w k low high = record {
+  net = record { declared = refl; low = low; high = high };
+  free = λ net at s. subst (λ (x : ModuleNet). IsSource x.role) (sym (some_same at)) s;
+  undriven = (λ e. absurd (omega (arith, e)), (λ e. absurd (omega (arith, e)), (λ e. absurd (omega (arith, e)), tt)));
+  unjoined = tt;
+}
 
 pub fits_y : (name : List ℕ) (w k : ℕ) → 1 ≤ w → w ≤ 64 → CellFits (with_busy name w k).nets w (cell.Choose (wire 0 1) (wire 8 w) (wire 9 w))
 fits_y name w k low high =

@@ -2,9 +2,9 @@ pub mod Placed
 pub mod Single
 pub mod Names
 pub mod Laws
-pub mod Walked
+pub mod SlowUnits
+pub mod Users
 pub mod PlainNames
-pub mod Reversed
 pub mod Counted
 pub mod Begun
 pub mod StepNets

@@ -18,11 +18,10 @@ use Rattle.ap_net.specs.Modules.{ModuleText, IsModule, nets_of, nets_among, port
 use Rattle.ap_net.specs.Finished.{IsFinished}
 use Rattle.ap_net.proofs.Laws.{Makes-trans, net-Adds, Settles-before}
 use Rattle.ap_unit.specs.declared.stepper.Pair.{Pair}
-use Rattle.ap_unit.specs.declared.stepper.Stepper.{Stepper}
-use Rattle.ap_bits.specs.Cards.{operation_value}
-use Rattle.ap_unit.specs.Ages.{UnitInput, age_at, IsHeld, AreProper}
-use Rattle.ap_unit.specs.Depends.{DependsOnNone}
-use Rattle.ap_unit.specs.Units.{ComputesInCycles, Behaves, ports_by, input_of, RunsAlone, ShowsAge}
+use Rattle.ap_unit.specs.Ages.{age_at, IsHeld, AreProper}
+use Rattle.ap_net.specs.Depends.{DependsOnNone}
+use Rattle.ap_net.specs.Alone.{RunsAlone}
+use Rattle.ap_unit.specs.Units.{ComputesInCycles, Behaves, ports_by, input_of, ShowsAge}
 use Rattle.ap_unit.specs.Built.{IsUnitDraft}
 use Rattle.ap_unit.specs.Pieces.{input_net, output_net}
 use Rattle.ap_unit.specs.Methods.{State, Method, Reaches}

@@ -1,7 +1,7 @@
 pub mod Cards
 pub mod Ages
-pub mod Depends
 pub mod Units
+pub mod Slow
 pub mod Built
 pub mod Pieces
 pub mod Kinds
@@ -9,6 +9,4 @@ pub mod Shelves
 pub mod Faults
 pub mod Methods
 pub mod Stepping
-pub mod Rows
 pub mod Named
-pub mod Example

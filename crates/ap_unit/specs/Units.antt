@@ -1,17 +1,16 @@
 -- What a unit of a card at a width is: a module that has the ports due, and that gives the values of the card's operations.
 -- The rules are the project's own.
-use Rattle.std.specs.Prelude.{◌≡◌, ℕ, ◌+◌, ◌-◌, ◌<◌, ◌≤◌, ◌↔◌, List, [], ◌∷◌, length, codes, true, false}
-use Rattle.std.specs.List.{AllByRecursion as Each}
+use Rattle.std.specs.Prelude.{◌≡◌, ℕ, ◌-◌, ◌<◌, ◌≤◌, ◌↔◌, List, [], ◌∷◌, length, codes, true, false}
 use Rattle.ap_bits.specs.declared.card.Card.{Card}
 use Rattle.ap_bits.specs.declared.card.Latency.{Latency}
 use Rattle.ap_bits.specs.declared.card.Latency.TheVariants.{One, WidthPlusOne}
 use Rattle.ap_bits.specs.Cards.{latency_at, select_width, operation_value}
 use Rattle.ap_net.specs.declared.net.Port.{Port}
-use Rattle.ap_net.specs.declared.net.Next.{Next}
 use Rattle.ap_net.specs.Wiring.{Settles, IsOrdered}
-use Rattle.ap_net.specs.Modules.{ModuleText, nets_of, reset_at}
+use Rattle.ap_net.specs.Modules.{ModuleText, nets_of}
+use Rattle.ap_net.specs.Depends.{DependsOnNone}
+use Rattle.ap_net.specs.Alone.{RunsAlone}
 use Rattle.ap_unit.specs.Ages.{UnitInput, age_at, AreProper}
-use Rattle.ap_unit.specs.Depends.{DependsOnNone}
 
 abbrev pub in_port : List ℕ → ℕ → Port
 in_port name width = record { name = name; width = width; output = false }
@@ -39,12 +38,12 @@ Computes m card w = (read : ℕ → ℕ) → Settles (nets_of m) m.assigns read 
 abbrev pub input_of : (ℕ → ℕ) → UnitInput
 input_of read = record { sel = read 0; a = read 1; b = read 2; go = read 3; adv = read 4 }
 
--- A run of the module alone over c cycles from reset, a solution for each cycle: registers hold their reset values in cycle 0,
--- and in each later cycle what they took in the one before.
-pub record RunsAlone (m : ModuleText) (c : ℕ) (reads : ℕ → ℕ → ℕ) : Type 0 where
-  pub solves : (j : ℕ) → j < c → Settles (nets_of m) m.assigns (reads j)
-  pub starts : Each (λ (x : Next). reads 0 x.register.number ≡ reset_at (nets_of m) x.register.number) m.nexts
-  pub goes : (j : ℕ) → j + 1 < c → Each (λ (x : Next). reads (j + 1) x.register.number ≡ reads j x.from.number) m.nexts
+-- and what it shows: busy and y
+abbrev pub busy_of : (ℕ → ℕ) → ℕ
+busy_of read = read 5
+
+abbrev pub result_of : (ℕ → ℕ) → ℕ
+result_of read = read 6
 
 -- busy is 1 exactly where the unit is asked and isn't done; where it is asked and done, y is the value of the operation
 pub record ShowsAge (card : Card) (w age : ℕ) (read : ℕ → ℕ) : Type 0 where

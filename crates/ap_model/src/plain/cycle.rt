@@ -13,7 +13,6 @@ ghost use Rattle.ap_model.specs.declared.state.Flight.{Flight};
 ghost use Rattle.ap_model.specs.declared.state.Pass.{Pass};
 ghost use Rattle.ap_model.specs.declared.state.Sample.{Sample};
 
-use super::lists::{copied, listed};
 use super::scene::{
     Scene, add_entries, add_flights, add_numbers, add_passes, add_samples, is_held, is_killed,
 };
@@ -194,10 +193,10 @@ fn kept_samples(
 {
     if scene.taken.is_some() {
         let below = samples_below(alloc, samples, next)?;
-        let list = listed(alloc, below)?;
+        let list = Items::of(below);
         Ok(list)
     } else {
-        let list = copied(alloc, samples)?;
+        let list = Items::copy_of(alloc, samples)?;
         Ok(list)
     }
 }
@@ -214,10 +213,10 @@ fn kept_passes(
 {
     if scene.taken.is_some() {
         let below = passes_below(alloc, passes, next)?;
-        let list = listed(alloc, below)?;
+        let list = Items::of(below);
         Ok(list)
     } else {
-        let list = copied(alloc, passes)?;
+        let list = Items::copy_of(alloc, passes)?;
         Ok(list)
     }
 }
@@ -335,7 +334,7 @@ pub(crate) fn after_control(alloc: Global, scene: &Scene, image: &Image) -> Resu
     let storages = after_writes(alloc, &state.storages, entries.as_slice())?;
     let flights = cycle_flights(alloc, scene, image)?;
     let log = joined(alloc, state.log.as_slice(), entries.as_slice())?;
-    let log = listed(alloc, log)?;
+    let log = Items::of(log);
     let samples = cycle_samples(alloc, scene)?;
     let samples = joined(alloc, state.sampled.as_slice(), samples.as_slice())?;
     let sampled = kept_samples(alloc, scene, next, &samples)?;

@@ -16,7 +16,6 @@ ghost use Rattle.ap_model.specs.States.{start, start_storages};
 ghost use Rattle.ap_model.specs.declared.storage.PortWrite.{PortWrite};
 
 use super::cycle::{after_control, busy_stages, cycle_entries, taken_transfer, writes_of};
-use super::lists::{copied, listed};
 use super::ports::{is_same_port, row_ports};
 use super::scene::{Scene, is_held};
 use super::storages::copied_lists;
@@ -40,7 +39,7 @@ fn zeros(alloc: Global, count: u32) -> Result<Items<u64>, NoMemory>
     ensures { IfOk result (λ list. list ≡ replicate count 0) }
 {
     let zeros: Vec<u64> = vec![in alloc; 0; count as usize]?;
-    let list = listed(alloc, zeros)?;
+    let list = Items::of(zeros);
     Ok(list)
 }
 
@@ -62,7 +61,7 @@ fn start_storages(alloc: Global, design: &Design, image: &Image) -> Result<Stora
     ensures { IfOk result (λ s. s ≡ start_storages design.now image.now) }
 {
     let resets = resets(alloc, design)?;
-    let regs = listed(alloc, resets)?;
+    let regs = Items::of(resets);
     let files = cleared(alloc, design)?;
     let mems = copied_lists(alloc, image.mems.as_slice())?;
     Ok(Storages { regs, files, mems })
@@ -119,7 +118,7 @@ fn inputs_at(alloc: Global, design: &Design, trace: &Trace, j: usize) -> Result<
 {
     match line_of(trace, j) {
         Some(line) => {
-            let ports = copied(alloc, line.ports.as_slice())?;
+            let ports = Items::copy_of(alloc, line.ports.as_slice())?;
             Ok(TraceLine {
                 wait: line.wait,
                 ports,
@@ -127,7 +126,7 @@ fn inputs_at(alloc: Global, design: &Design, trace: &Trace, j: usize) -> Result<
         }
         None => {
             let zeros = idle_ports(alloc, design)?;
-            let ports = listed(alloc, zeros)?;
+            let ports = Items::of(zeros);
             Ok(TraceLine { wait: false, ports })
         }
     }

@@ -5,7 +5,6 @@ ghost use Rattle.ap_model.specs.Cycles.{entry_of, from_last, is_killed, sample_o
 ghost use Rattle.ap_model.specs.Fitting.{EffectFits, FlightFits, WaitsWithin};
 ghost use Rattle.ap_model.specs.Scenes.{SceneFits, StageFits, StagesFit, WritesHereFit, control_of_scene, scene_effect, scene_entries, scene_flights, scene_leaving, scene_number, scene_passes, scene_samples};
 
-use super::lists::copied;
 use super::stage::fire;
 use super::stalls::is_held_stage;
 use crate::state::{Entry, Flight, InputRead, Pass, Sample, StageEffect, State};
@@ -318,7 +317,7 @@ fn staying(alloc: Global, flight: &Option<Flight>) -> Result<Option<Flight>, NoM
             number: f.number,
             word: f.word,
             place: f.place,
-            locals: copied(alloc, f.locals.as_slice())?,
+            locals: Items::copy_of(alloc, f.locals.as_slice())?,
             waited: f.waited + 1,
         })),
         None => Ok(None),

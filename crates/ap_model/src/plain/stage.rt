@@ -7,7 +7,6 @@ ghost use Rattle.ap_model.specs.Fire.{fire, instr_of, lines_effect, locals_after
 ghost use Rattle.ap_model.specs.Fitting.{LocalsFit, LocalsStand, SightFits, StoragesFit, EffectFits, FlightFits, PortsFit, GoesByLine, IsGood};
 ghost use Rattle.ap_model.specs.PlainViews.{HasWidths, StandIn, stage_lines, sight_of, operand_value};
 
-use super::lists::{copied, listed};
 use super::ports::ordered;
 use super::values::{View, act_value, arg_value, at};
 use crate::state::{Flight, InputRead, StageEffect};
@@ -154,7 +153,7 @@ pub(crate) fn locals_after(
         ≡ locals_after (sight_of view.now) before.now (stage_lines view.now stage)) }
     ensures stand { IfOk result (λ after. StandIn view.now (stage + 1) after) }
 {
-    let mut locals = copied(alloc, before)?;
+    let mut locals = Items::copy_of(alloc, before)?;
     for micro in view.instr.micros.as_slice() {
         go_by_line(view, stage, micro, &mut locals)?;
     }
@@ -220,7 +219,8 @@ fn lines_effect(
     ensures stand { IfOk result (λ effect. StandIn view.now (stage + 1) effect.locals) }
 {
     let locals = locals_after(alloc, view, stage, before)?;
-    let reads = listed(alloc, reads(alloc, view, stage)?)?;
+    let reads = reads(alloc, view, stage)?;
+    let reads = Items::of(reads);
     let targets = targets(alloc, view, stage, locals.as_slice())?;
     let target = targets.first().copied();
     let writes = writes(alloc, view, stage, locals.as_slice())?;
@@ -266,7 +266,7 @@ pub(crate) fn fire(
             Ok(effect)
         }
         None => {
-            let locals = copied(alloc, flight.locals.as_slice())?;
+            let locals = Items::copy_of(alloc, flight.locals.as_slice())?;
             Ok(StageEffect {
                 locals,
                 reads: Items::new(alloc),

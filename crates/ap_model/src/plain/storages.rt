@@ -3,7 +3,6 @@ ghost use Rattle.std.specs.Prelude.{◌≡◌, [], IfOk, if◌then◌else◌, sl
 ghost use Rattle.ap_image.specs.Words.{with_word};
 ghost use Rattle.ap_model.specs.Stored.{with_value, with_write, with_writes};
 
-use super::lists::{copied, listed};
 use crate::storage::{PortWrite, Storages, WritePort};
 use ap_bits::{Items, NoMemory};
 use std::alloc::Global;
@@ -17,7 +16,7 @@ fn set_value(alloc: Global, values: &[u64], i: usize, value: u64) -> Result<Item
     if i < set.len() {
         set[i] = value;
     }
-    let list = listed(alloc, set)?;
+    let list = Items::of(set);
     Ok(list)
 }
 
@@ -36,7 +35,7 @@ fn set_word(
         set.push(0)?;
     }
     set[address] = value;
-    let list = listed(alloc, set)?;
+    let list = Items::of(set);
     Ok(list)
 }
 
@@ -45,9 +44,9 @@ fn either(alloc: Global, first: bool, one: &[u64], other: &[u64]) -> Result<Item
     ensures { IfOk result (λ list. list ≡ (if first then one.now else other.now)) }
 {
     if first {
-        copied(alloc, one)
+        Items::copy_of(alloc, one)
     } else {
-        copied(alloc, other)
+        Items::copy_of(alloc, other)
     }
 }
 
@@ -76,7 +75,7 @@ pub(crate) fn copied_lists(
 {
     let mut list = Items::new(alloc);
     for old in lists {
-        list.push(copied(alloc, old.as_slice())?)?;
+        list.push(Items::copy_of(alloc, old.as_slice())?)?;
     }
     Ok(list)
 }
@@ -95,7 +94,7 @@ fn list_at(lists: &[Items<u64>], i: usize) -> &[u64]
 pub(crate) fn copied_storages(alloc: Global, storages: &Storages) -> Result<Storages, NoMemory>
     ensures { IfOk result (λ s. s ≡ storages.now) }
 {
-    let regs = copied(alloc, storages.regs.as_slice())?;
+    let regs = Items::copy_of(alloc, storages.regs.as_slice())?;
     let files = copied_lists(alloc, storages.files.as_slice())?;
     let mems = copied_lists(alloc, storages.mems.as_slice())?;
     Ok(Storages { regs, files, mems })
@@ -126,7 +125,7 @@ fn with_cell(
 {
     let cells = list_at(storages.files.as_slice(), file as usize);
     let cells = set_value(alloc, cells, index as usize, value)?;
-    let regs = copied(alloc, storages.regs.as_slice())?;
+    let regs = Items::copy_of(alloc, storages.regs.as_slice())?;
     let files = set_list(
         alloc,
         storages.files.as_slice(),
@@ -149,7 +148,7 @@ fn with_mem(
 {
     let words = list_at(storages.mems.as_slice(), mem as usize);
     let words = set_word(alloc, words, address as usize, value)?;
-    let regs = copied(alloc, storages.regs.as_slice())?;
+    let regs = Items::copy_of(alloc, storages.regs.as_slice())?;
     let files = copied_lists(alloc, storages.files.as_slice())?;
     let mems = set_list(
         alloc,

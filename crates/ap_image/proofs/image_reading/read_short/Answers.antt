@@ -13,4 +13,4 @@ returns-clause-faultless c =
     faultless_text (image_fault c.args.shape.now) c.args.text.now c.requires (subst (λ (l : List TextLine). AreFine (image_fault c.args.shape.now) [] l) lines c.in_ok-so_far.ensures.ok.fine)
 
 pub returns-clause-fits : goal.returns-clause-fits
-returns-clause-fits c = image_fits c.args.shape.now _ c.in_ok-so_far.so_far c.in_ok-image.image c.in_ok-so_far.ensures.ok c.in_ok-image.ensures
+returns-clause-fits c = image_fits c.args.shape.now _ c.in_ok-so_far.so_far c.finish.result c.in_ok-so_far.ensures.ok c.finish.ensures

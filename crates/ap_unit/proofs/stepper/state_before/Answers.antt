@@ -1,8 +1,8 @@
-use Rattle.std.proofs.Common.{ap, ◌∙◌}
+use Rattle.std.proofs.Common.{ap, refl, sym, ◌∙◌}
 use Rattle.std.specs.Prelude.{◌==◌, if◌then◌else◌}
 use Rattle.ap_net.proofs.Laws.{Makes-trans}
 use Rattle.ap_unit.specs.Stepping.{state_of}
-use Rattle.ap_unit.proofs.Begun.{by_flag}
+use Rattle.ap_unit.proofs.Begun.{by_flag, IsPair-Makes}
 use Rattle.ap_unit.proofs.stepper.state_before.Goals as goal
 
 pub returns-clause-value : goal.returns-clause-value
@@ -17,3 +17,8 @@ returns-clause-value c = λ read s.
 
 pub returns-clause-makes : goal.returns-clause-makes
 returns-clause-makes c = Makes-trans _ _ _ c.in_ok-zero.ensures.makes (Makes-trans _ _ _ c.in_ok-unstarted.ensures.makes c.in_ok-before.ensures.makes)
+
+pub choose_state-requires-clause-first : goal.choose_state-requires-clause-first
+choose_state-requires-clause-first c =
+    let first = IsPair-Makes _ _ _ _ c.in_ok-unstarted.ensures.makes (IsPair-Makes _ _ _ _ c.in_ok-zero.ensures.makes c.requires.first) in
+    record { high = first.high; low = first.low; high_width = refl; low_width = first.low_width ∙ sym first.high_width }

@@ -19,8 +19,8 @@ returns-clause-value c =
     let log = rw (c.as_slice-2.ensures, c.as_slice-3.ensures) at c.in_ok-log.ensures in
     let samples = rw (c.as_slice-4.ensures, c.as_slice-5.ensures) at c.in_ok-samples-2.ensures in
     let passes = rw (c.as_slice-6.ensures, c.as_slice-7.ensures) at c.in_ok-passes-2.ensures in
-    after_control_is scene.design.now scene.cards.now c.args.image.now scene.inputs.now state control c.next_pc.result c.in_ok-storages.storages c.in_ok-flights.flights c.in_ok-next.next c.in_ok-log-2.log c.in_ok-sampled.sampled c.in_ok-passes-3.passes
-    c.in_ok-entries.entries c.next_pc.ensures c.in_ok-entries.ensures.value storages c.in_ok-flights.ensures.value c.in_ok-next.ensures (c.in_ok-log-2.ensures ∙ log)
+    after_control_is scene.design.now scene.cards.now c.args.image.now scene.inputs.now state control c.next_pc.result c.in_ok-storages.storages c.in_ok-flights.flights c.in_ok-next.next c.of-log.result c.in_ok-sampled.sampled c.in_ok-passes-3.passes
+    c.in_ok-entries.entries c.next_pc.ensures c.in_ok-entries.ensures.value storages c.in_ok-flights.ensures.value c.in_ok-next.ensures (c.of-log.ensures ∙ log)
     (c.in_ok-sampled.ensures ∙ ap (kept (λ (s : Sample). s.number) control c.in_ok-next.next) (c.deref.ensures.value ∙ samples ∙ ap (λ (xs : List Sample). state.sampled ++ xs) c.in_ok-samples.ensures))
     (c.in_ok-passes-3.ensures ∙ ap (kept (λ (p : Pass). p.number) control c.in_ok-next.next) (c.deref-2.ensures.value ∙ passes ∙ ap (λ (xs : List Pass). state.passes ++ xs) c.in_ok-passes.ensures))
 

@@ -1,4 +1,5 @@
 use Rattle.ap_net.proofs.Wired.{IsWired-next}
+use Rattle.ap_net.proofs.LateSteps.{StayLate-next}
 use Rattle.ap_net.proofs.builder.Builder.next.Goals as goal
 
 pub invariant_of-self-2 : goal.invariant_of-self-2
@@ -12,3 +13,6 @@ invariant_of-self-2 c =
       alone = c.self.invariant.alone;
       wires = c.self.invariant.wires;
     })
+
+pub returns-clause-stay : goal.returns-clause-stay
+returns-clause-stay c = rw (c.in_ok-push.ensures.items, ← c.self.view_is) (StayLate-next _ _)

@@ -6,8 +6,10 @@ use Rattle.ap_net.specs.Wiring.{IsWired, IsConnected}
 use Rattle.ap_net.specs.Modules.{ModuleText, outputs, instance_of}
 use Rattle.ap_net.specs.Draft.{Draft, CanFresh, names_of, wire_count}
 use Rattle.ap_net.specs.Placing.{output_widths, wires_from, fresh_nets, merged, output_wires, placed_instance, with_placed}
+use Rattle.ap_net.proofs.Lists.{get_end}
 use Rattle.ap_net.proofs.Among.{ports_within}
-use Rattle.ap_net.proofs.Placing.{length-wires_from, wires_from-IsNet, outputs_bounded, placed-widths, placed-nets, placed-free, placed-undriven, placed-unjoined, placed-apart, placed-Adds, placed-Closes, placed-ports, placed-value, Places-placed}
+use Rattle.ap_net.proofs.LateSteps.{Joins-placed}
+use Rattle.ap_net.proofs.Placing.{length-wires_from, wires_from-IsNet, outputs_bounded, placed-widths, placed-nets, placed-free, placed-undriven, placed-unjoined, placed-apart, placed-Adds, placed-Closes, placed-ports, Places-placed}
 use Rattle.ap_net.proofs.builder.Builder.place.Goals as goal
 
 pub fresh_outputs-requires-clause-widths : goal.fresh_outputs-requires-clause-widths
@@ -126,8 +128,8 @@ returns-clause-nets c =
     let answered : c.in_ok-outputs.outputs ≡ output_wires (length d.nets) m = c.in_ok-outputs.ensures.outputs ∙ ap (λ (ps : List Port). wires_from (length d.nets) (output_widths ps)) c.ports.ensures in
     rw (made, answered) (wires_from-IsNet d.nets (wire_count d.nets) (output_widths m.ports) (outputs_bounded m.ports (ports_within m c.rules.ensures.wired.widths)))
 
-pub returns-clause-value : goal.returns-clause-value
-returns-clause-value c =
+pub returns-clause-part : goal.returns-clause-part
+returns-clause-part c =
     let d : Draft = c.args.self.now in
     let m : ModuleText = c.args.whole.now in
     let wired : IsWired d.nets d.assigns d.nexts = rw (← c.self.view_is) c.self.invariant.wired in
@@ -139,7 +141,22 @@ returns-clause-value c =
     c.deref.ensures.value ∙ c.in_ok-nets.ensures ∙ (λ j. merged (map (λ (p : Port). p.output) (c.ports-2.ensures j)) c.args.inputs.now (outs j)) in
     let made : c.instance.new.self ≡ with_placed d c.args.name.now m c.args.inputs.now =
     c.in_ok-instance.ensures.ok ∙ (λ j. record (mid j) { instances = (mid j).instances ++ instance_of c.args.name.now m (nets j) ∷ [] }) in
-    rw made (placed-value d c.args.name.now m c.args.inputs.now wired joined c.requires.widths c.requires.nets)
+    rw made (record { holds = λ r s m found. s.each (length d.instances) _ m (get_end d.instances _) found })
+
+pub returns-clause-joins : goal.returns-clause-joins
+returns-clause-joins c =
+    let d : Draft = c.args.self.now in
+    let m : ModuleText = c.args.whole.now in
+    let wired : IsWired d.nets d.assigns d.nexts = rw (← c.self.view_is) c.self.invariant.wired in
+    let joined : IsConnected d.nets d.assigns d.instances = rw (← c.self.view_is) c.self.invariant.connected in
+    let mid : c.fresh_outputs.new.self ≡ record d { nets = d.nets ++ fresh_nets (wire_count d.nets) (output_widths m.ports) } =
+    c.in_ok-outputs.ensures.ok ∙ ap (λ (ps : List Port). record d { nets = d.nets ++ fresh_nets (wire_count d.nets) (output_widths ps) }) c.ports.ensures in
+    let outs : c.as_slice.result.now ≡ output_wires (length d.nets) m = c.as_slice.ensures ∙ c.in_ok-outputs.ensures.outputs ∙ ap (λ (ps : List Port). wires_from (length d.nets) (output_widths ps)) c.ports.ensures in
+    let nets : c.deref.result.now ≡ merged (outputs m) c.args.inputs.now (output_wires (length d.nets) m) =
+    c.deref.ensures.value ∙ c.in_ok-nets.ensures ∙ (λ j. merged (map (λ (p : Port). p.output) (c.ports-2.ensures j)) c.args.inputs.now (outs j)) in
+    let made : c.instance.new.self ≡ with_placed d c.args.name.now m c.args.inputs.now =
+    c.in_ok-instance.ensures.ok ∙ (λ j. record (mid j) { instances = (mid j).instances ++ instance_of c.args.name.now m (nets j) ∷ [] }) in
+    rw made (Joins-placed d c.args.name.now m c.args.inputs.now)
 
 pub returns-clause-places : goal.returns-clause-places
 returns-clause-places c =

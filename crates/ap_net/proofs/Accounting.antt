@@ -1,0 +1,60 @@
+-- How a builder keeps account of the nets that are to come.
+use Rattle.std.proofs.Common.{◌≡◌, ℕ, zero, suc, ◌<◌, List, [], ◌∷◌, ◌++◌, length, refl, ap, subst, inl, inr, ⊎_elim, arith}
+use Rattle.std.specs.Prelude.{◌⊎◌, slice_index_or}
+use Rattle.ap_net.specs.declared.cell.Wire.{Wire}
+use Rattle.std.specs.List.{AllByRecursion as Each}
+use Rattle.std.proofs.lemmas.Bool.{cases_lt}
+use Rattle.ap_net.specs.Draft.{Draft}
+use Rattle.ap_net.proofs.Lists.{All-from}
+use Rattle.ap_net.specs.Ready.{Dependence, Ready, AreReady, ReadyAfter, numbers}
+use Rattle.ap_net.specs.Late.{Reads}
+use Rattle.ap_net.specs.Pending.{Among, IsFrom, Accounts}
+use Rattle.ap_net.proofs.Growing.{Ready-Extends}
+use Rattle.ap_net.proofs.LateSteps.{Reads-trans, AreReady-Extends}
+use Rattle.ap_net.proofs.Drafts.{Extends-refl}
+
+among_right : (more pending : List ℕ) (n : ℕ) → Among pending n → Among (more ++ pending) n
+among_right [] pending n h = h
+among_right (m ∷ more) pending n h = inr (among_right more pending n h)
+
+among_left : (more pending : List ℕ) (n : ℕ) → Among more n → Among (more ++ pending) n
+among_left [] pending n h = absurd h
+among_left (m ∷ more) pending n (inl e) = inl e
+among_left (m ∷ more) pending n (inr h) = inr (among_left more pending n h)
+
+is_ready : (by : Dependence) (d : Draft) (from : List ℕ) → AreReady by d from → (n : ℕ) → Among from n → Ready by d n
+is_ready by d [] each n h = absurd h
+is_ready by d (m ∷ from) each n (inl e) = subst (Ready by d) e each.0
+is_ready by d (m ∷ from) each n (inr h) = is_ready by d from each.1 n h
+
+pub Reads-joined : (from more : List ℕ) (a b c : Draft) → Reads from a b → Reads more b c → Each (IsFrom from a b) more → Reads from a c
+Reads-joined from more a b c p q each = Reads-trans from more a b c p q
+    (λ by. All-from (IsFrom from a b) (ReadyAfter by b from) (λ n. ⊎_elim (λ h later e ready. is_ready by later from ready n h) (λ h. p.came by n h.0 h.1)) more each)
+
+taken : (by : Dependence) (d : Draft) (n m : ℕ) (pending : List ℕ) → Ready by d n → Ready by d m ⊎ Among (n ∷ pending) m → Ready by d m ⊎ Among pending m
+taken by d n m pending is (inl r) = inl r
+taken by d n m pending is (inr (inl e)) = inl (subst (Ready by d) e is)
+taken by d n m pending is (inr (inr h)) = inr h
+
+pub accounts : Accounts
+accounts = record {
+  begins = λ by d none n lt. let e : length d.nets ≡ 0 = ap length none in absurd (omega arith);
+  reads = λ by from pending a b but ready r n lt.
+      ⊎_elim (λ low. ⊎_elim (λ h. inl (Ready-Extends by a b n r.extends h)) inr (but n low)) (λ high. inl (r.came by n high lt b (Extends-refl b) (AreReady-Extends by a b from r.extends ready))) (cases_lt n (length a.nets));
+  comes = λ by pending more a b but e new n lt.
+      ⊎_elim (λ low. ⊎_elim (λ h. inl (Ready-Extends by a b n e h)) (λ h. inr (among_right more pending n h)) (but n low)) (λ high. inr (among_left more pending n (new n high lt))) (cases_lt n (length a.nets));
+  becomes = λ by n pending d but is m lt. taken by d n m pending is (but m lt);
+  ends = λ by d but n lt. ⊎_elim (λ r. r) (λ h. absurd h) (but n lt);
+  joined = Reads-joined;
+}
+
+-- an element of a slice by its index
+pub at_index : (P : Wire → Type 0) (nets : List Wire) (i : ℕ) (w : Wire) → Each P nets → i < length nets → P (slice_index_or nets i w)
+at_index P [] i w each lt = absurd (omega arith)
+at_index P (x ∷ nets) zero w each lt = each.0
+at_index P (x ∷ nets) (suc i) w each lt = at_index P nets i w each.1 (omega arith)
+
+pub among_index : (nets : List Wire) (i : ℕ) (w : Wire) → i < length nets → Among (numbers nets) (slice_index_or nets i w).number
+among_index [] i w lt = absurd (omega arith)
+among_index (x ∷ nets) zero w lt = inl refl
+among_index (x ∷ nets) (suc i) w lt = inr (among_index nets i w (omega arith))

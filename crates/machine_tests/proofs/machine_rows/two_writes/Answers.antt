@@ -1,0 +1,21 @@
+use Rattle.std.proofs.Common.{ap}
+use Rattle.ap_model.specs.Cycles.{after_control, control_of, cycle, cycle_entries, cycle_flights, cycle_passes, cycle_samples, over}
+use Rattle.ap_model.specs.Fire.{fire, instr_of, locals_after}
+use Rattle.ap_model.specs.Ports.{write_groups, write_ports}
+use Rattle.ap_model.specs.ShownRows.{control_row, cycle_row, row, rows_of}
+use Rattle.ap_model.specs.Stalls.{has_memory_line, is_held_stage, need}
+use Rattle.ap_model.specs.States.{start, start_storages}
+use Rattle.ap_model.specs.Stored.{with_writes}
+use Rattle.std.specs.Prelude.{ℕ, List, [], ◌∷◌}
+use Rattle.ap_model.specs.Examples.{run, cell, two_cells}
+use Rattle.ap_image.specs.declared.row.Row.{Row}
+use Rattle.ap_model.proofs.Worked.{sum_two}
+use Rattle.machine_tests.proofs.machine_rows.two_writes.Goals as goal
+
+-- the rows by what the adder gives
+rows_by : (ℕ → ℕ → ℕ) → List Row
+rows_by add = run ∷ run ∷ run ∷ two_cells 1 (add 0 5) 1 9 ∷ run ∷ run ∷ cell 2 (add 9 9) ∷ run ∷ []
+
+pub returns : goal.returns
+unfolding rows_of row cycle_row control_row over cycle after_control control_of cycle_entries cycle_samples cycle_passes cycle_flights need has_memory_line is_held_stage start start_storages fire instr_of locals_after write_ports write_groups with_writes rows_by
+returns c = ap rows_by (λ i a b. sum_two a b i)
