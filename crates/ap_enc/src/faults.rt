@@ -91,7 +91,8 @@ fn fault_at(design: &Design, place: usize) -> Option<Fault>
 fn first_fault(design: &Design) -> Option<(usize, Fault)>
     requires { IsSound design.now }
     ensures none { IfNone result ((place : ℕ) → fault_at design.now place ≡ None) }
-    ensures some { IfSome result (λ found. (fault_at design.now found.0 ≡ Some found.1) × ((place : ℕ) → place < found.0 → fault_at design.now place ≡ None)) }
+    ensures some { IfSome result (λ found. (fault_at design.now found.0 ≡ Some found.1)
+        × ((place : ℕ) → place < found.0 → fault_at design.now place ≡ None)) }
 {
     for place in 0..design.instrs.len() {
         if let Some(fault) = fault_at(design, place) {

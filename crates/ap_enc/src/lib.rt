@@ -7,3 +7,6 @@ pub mod word;
 
 pub use faults::judge;
 pub use word::{FieldRange, encode, find};
+
+#[cfg(test)]
+mod tests;

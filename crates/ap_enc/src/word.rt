@@ -65,7 +65,8 @@ pub fn fields_of<'a>(design: &'a Design, instr: &Instr) -> &'a [Field]
 
 /// The place of the first instruction that the word matches.
 fn first_match(instrs: &[Instr], word: u64) -> Option<usize>
-    ensures { result ≡ position (λ (i : Instr). bit_and word i.fixed_mask == i.fixed_value) instrs.now }
+    ensures { result
+        ≡ position (λ (i : Instr). bit_and word i.fixed_mask == i.fixed_value) instrs.now }
 {
     instrs
         .iter()
@@ -87,7 +88,8 @@ pub fn find(design: &Design, word: u64) -> Option<u32>
 
 /// The number of the first operand whose value doesn't fit.
 fn first_unfit(fields: &[Field], fixed: &[Option<u64>], values: &[u64]) -> Option<usize>
-    ensures { result ≡ position is_too_wide (zip (filter_map free_width (zip fields.now fixed.now)) values.now) }
+    ensures { result ≡ position is_too_wide
+        (zip (filter_map free_width (zip fields.now fixed.now)) values.now) }
 {
     fields
         .iter()
