@@ -11,17 +11,6 @@ use ap_desc::design::{Act, Arg, Design, Field, File, Format, Instr, Micro, Unit}
 use std::alloc::Global;
 use std::test::Fail;
 
-/// The same values in a list.
-fn copied<T: Copy + Drop>(alloc: Global, values: &[T]) -> Result<Items<T>, NoMemory>
-    ensures { IfOk result (λ list. list ≡ values.now) }
-{
-    let mut list = Items::new(alloc);
-    for value in values {
-        list.push(*value)?;
-    }
-    Ok(list)
-}
-
 fn field(alloc: Global, name: &[u8], width: u32, low: u32) -> Result<Field, NoMemory>
     requires { IsName name.now }
     ensures { IfOk result (λ field. field ≡ record { name = name.now; width = width; low = low }) }
@@ -64,7 +53,7 @@ fn micros(alloc: Global) -> Result<Items<Micro>, NoMemory>
         guard: None,
     };
     let line = |line, stage, act| Micro { line, stage, act };
-    copied(
+    Items::copy_of(
         alloc,
         &[
             line(11, 1, read(0, Arg::Field(2))),
@@ -83,7 +72,7 @@ fn nop(alloc: Global) -> Result<Instr, NoMemory>
         name: Name::new(alloc, b"NOP")?,
         line: 8,
         format: 0,
-        fixed: copied(alloc, &[Some(0), Some(0), Some(0), Some(0), Some(0)])?,
+        fixed: Items::copy_of(alloc, &[Some(0), Some(0), Some(0), Some(0), Some(0)])?,
         fixed_mask: 0xffff,
         fixed_value: 0,
         locals: Items::new(alloc),
@@ -99,10 +88,10 @@ fn add(alloc: Global) -> Result<Instr, NoMemory>
         name: Name::new(alloc, b"ADD")?,
         line: 10,
         format: 0,
-        fixed: copied(alloc, &[Some(1), None, None, None, Some(0)])?,
+        fixed: Items::copy_of(alloc, &[Some(1), None, None, None, Some(0)])?,
         fixed_mask: 0xf007,
         fixed_value: 0x1000,
-        locals: copied(alloc, &[16, 16, 16])?,
+        locals: Items::copy_of(alloc, &[16, 16, 16])?,
         micros,
     })
 }

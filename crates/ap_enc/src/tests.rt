@@ -15,17 +15,6 @@ use ap_desc::{Fault, Refusal};
 use std::alloc::Global;
 use std::test::Fail;
 
-/// The same values in a list.
-fn copied<T: Copy + Drop>(alloc: Global, values: &[T]) -> Result<Items<T>, NoMemory>
-    ensures { IfOk result (λ list. list ≡ values.now) }
-{
-    let mut list = Items::new(alloc);
-    for value in values {
-        list.push(*value)?;
-    }
-    Ok(list)
-}
-
 fn field(alloc: Global, name: &[u8], width: u32, low: u32) -> Result<Field, NoMemory>
     requires { IsName name.now }
     ensures { IfOk result (λ field. field ≡ record { name = name.now; width = width; low = low }) }
@@ -91,7 +80,7 @@ fn plain(
         ≡ plain_instr name.now line format fixed.now fixed_mask fixed_value) }
 {
     let name = Name::new(alloc, name)?;
-    let fixed = copied(alloc, fixed)?;
+    let fixed = Items::copy_of(alloc, fixed)?;
     Ok(Instr {
         name,
         line,
@@ -243,11 +232,11 @@ fn nop_alone(
         name: Name::new(alloc, b"NOP")?,
         line: 6,
         format: 0,
-        fixed: copied(alloc, &[Some(value)])?,
+        fixed: Items::copy_of(alloc, &[Some(value)])?,
         fixed_mask,
         fixed_value: 0,
-        locals: copied(alloc, locals)?,
-        micros: copied(alloc, micros)?,
+        locals: Items::copy_of(alloc, locals)?,
+        micros: Items::copy_of(alloc, micros)?,
     })?;
     Ok(Design {
         stages: 4,
