@@ -21,7 +21,7 @@ import tempfile
 TOP = pathlib.Path(__file__).resolve().parent.parent
 LIMIT = 67_108_864
 BELOW = ["ap_text", "ap_bits", "ap_image"]
-CRATES = "ap_text:\nap_bits:\nap_image: ap_text ap_bits\ntiming: ap_bits ap_image\n"
+CRATES = "ap_text: ap_bits\nap_bits:\nap_image: ap_text ap_bits\ntiming: ap_bits ap_image\n"
 PROGRAM = r"""//! Reads the text of an image or a trace and writes it again. It prints how many microseconds each took, and how long
 //! the written text is; or the fault.
 #![tactic(auto)]
