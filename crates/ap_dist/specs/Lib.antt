@@ -2,7 +2,10 @@ pub mod Accesses
 pub mod Constants
 pub mod Distances
 pub mod Examples
+pub mod LeastStarts
 pub mod Limits
+pub mod Places
+pub mod Programs
 pub mod Spaced
 pub mod Touches
 pub mod Trails
