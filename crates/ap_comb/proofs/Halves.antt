@@ -1,6 +1,7 @@
 -- A choice by the lowest bit of a number, and what is left to be chosen.
-use Rattle.std.proofs.Common.{◌≡◌, ℕ, ◌+◌, ◌*◌, ◌/◌, ◌%◌, ◌<◌, List, [], ◌∷◌, ◌++◌, length, get_or, Some, None, Option, refl, sym, ap, subst, ◌∙◌, arith, ⊎_elim}
+use Rattle.std.proofs.Common.{◌≡◌, ℕ, ◌+◌, ◌*◌, ◌/◌, ◌%◌, ◌<◌, List, [], ◌∷◌, ◌++◌, length, get_or, Some, None, Option, refl, sym, ap, subst, ◌∙◌, arith, ⊎_elim, zero, suc, inl, inr}
 use Rattle.std.specs.Prelude.{slice_get, slice_index, option_map, All, IfSome}
+use Rattle.std.specs.List.{AllByRecursion as Each}
 use Rattle.std.proofs.lemmas.Bool.{cases_lt}
 use Rattle.std.proofs.lemmas.List.{map-append, length-map}
 use Rattle.std.proofs.Math.ListN.{get_or-append}
@@ -8,9 +9,12 @@ use Rattle.std.proofs.Math.Seq.{get_or-append_seam}
 use Rattle.std.proofs.lemmas.Option.{slice_get-map, slice_get-get_or, slice_get_within, get_or_from_slice_get}
 use Rattle.ap_net.specs.declared.cell.Wire.{Wire}
 use Rattle.ap_net.specs.declared.net.ModuleNet.{ModuleNet}
-use Rattle.ap_net.specs.Draft.{Draft, Makes}
+use Rattle.ap_net.specs.Draft.{Draft}
+use Rattle.ap_net.specs.Making.{Makes}
 use Rattle.ap_net.proofs.Laws.{IsNet-Makes}
-use Rattle.ap_comb.specs.Choices.{IsOfWidth, values_of, pair_value}
+use Rattle.ap_net.specs.Ready.{numbers}
+use Rattle.ap_net.specs.Pending.{Among}
+use Rattle.ap_comb.specs.Choices.{IsOfWidth, values_of, pair_value, number_of}
 
 pub IsOfWidth-Makes : (a b : Draft) (w : ℕ) (x : Wire) → Makes a b → IsOfWidth a.nets w x → IsOfWidth b.nets w x
 IsOfWidth-Makes a b w x m h = record { net = IsNet-Makes a b x m h.net; wide = h.wide }
@@ -63,3 +67,19 @@ pub width_at : (nets : List ModuleNet) (w j : ℕ) (level : List Wire) (r : Opti
 width_at nets w j level None all at = tt
 width_at nets w j level (Some x) all at =
     subst (IsOfWidth nets w) (get_or_from_slice_get level j x x (sym at)) (all j x (slice_get_within level j x (sym at)))
+
+-- a net of a list is among their numbers
+among_at : (nets : List Wire) (i : ℕ) (x : Wire) → slice_get nets i ≡ Some x → Among (numbers nets) x.number
+among_at [] i x at = cc
+among_at (y ∷ nets) zero x at = let same : y ≡ x = cc in inl (ap (λ (w : Wire). w.number) same)
+among_at (y ∷ nets) (suc i) x at = inr (among_at nets i x at)
+
+-- what holds of them holds of the one at a place, if there is one
+pub each_number_of : (P : ℕ → Type 0) (nets : List Wire) (i : ℕ) (o : Option Wire) → o ≡ slice_get nets i → ((n : ℕ) → Among (numbers nets) n → P n) → Each P (number_of o)
+each_number_of P nets i None is h = tt
+each_number_of P nets i (Some x) is h = (h x.number (among_at nets i x (sym is)), tt)
+
+-- and of each where it holds by their places
+pub each_number : (P : ℕ → Type 0) (nets : List Wire) → All (λ (x : Wire). P x.number) nets → Each P (numbers nets)
+each_number P [] h = tt
+each_number P (x ∷ nets) h = (h 0 x (omega arith), each_number P nets (λ i d lt. h (suc i) d (omega arith)))

@@ -3,7 +3,8 @@ ghost use Rattle.std.specs.Prelude.{◌≡◌, ℕ, ◌+◌, ◌-◌, ◌/◌, �
 ghost use Rattle.ap_bits.specs.declared.term.BinOp.TheVariants as two;
 ghost use Rattle.ap_bits.specs.Operations.{binary_value};
 ghost use Rattle.ap_net.specs.Cells.{IsNet, AreOfOneWidth, FitsTwo, two_value};
-ghost use Rattle.ap_net.specs.Draft.{CanFresh, Makes, Means};
+ghost use Rattle.ap_net.specs.Draft.{CanFresh, Means};
+ghost use Rattle.ap_net.specs.Making.{Makes};
 ghost use Rattle.ap_bits.specs.Cards.{operation_value, FitsWidth};
 ghost use Rattle.ap_bits.specs.KindCards.{alu_card};
 ghost use Rattle.ap_comb.specs.Alu.{name_of, result_of};

@@ -1,7 +1,8 @@
 //! The kind `avg`: half of the sum.
 ghost use Rattle.std.specs.Prelude.{◌≡◌, ℕ, ◌/◌, ◌%◌, ◌^◌, ◌<◌, ◌≤◌, IfOk, OnOk};
 ghost use Rattle.ap_net.specs.Cells.{IsNet, AreOfOneWidth};
-ghost use Rattle.ap_net.specs.Draft.{CanFresh, Makes, Means};
+ghost use Rattle.ap_net.specs.Draft.{CanFresh, Means};
+ghost use Rattle.ap_net.specs.Making.{Makes};
 ghost use Rattle.ap_bits.specs.declared.term.BinOp.TheVariants.{Add, Srl};
 ghost use Rattle.ap_bits.specs.Operations.{binary_value};
 ghost use Rattle.ap_bits.specs.KindCards.{avg_card};

@@ -1,7 +1,8 @@
 //! The kind `count`: how many bits are 1, and how many stand above the highest 1.
 ghost use Rattle.std.specs.Prelude.{◌≡◌, ℕ, ◌-◌, ◌^◌, ◌<◌, ◌≤◌, ◌==◌, if◌then◌else◌, IfOk, OnOk, slice_get, Some};
 ghost use Rattle.ap_net.specs.Cells.{IsNet};
-ghost use Rattle.ap_net.specs.Draft.{CanFresh, Makes, Means};
+ghost use Rattle.ap_net.specs.Draft.{CanFresh, Means};
+ghost use Rattle.ap_net.specs.Making.{Makes};
 ghost use Rattle.ap_bits.specs.declared.term.UnOp.{UnOp};
 ghost use Rattle.ap_bits.specs.Operations.{unary_value, zeros_above};
 ghost use Rattle.ap_bits.specs.KindCards.{count_card};

@@ -1,7 +1,10 @@
 //! The bits above the highest 1.
-ghost use Rattle.std.specs.Prelude.{◌≡◌, ℕ, ◌-◌, ◌/◌, ◌^◌, ◌<◌, ◌≤◌, IfOk, OnOk, bit_or};
+ghost use Rattle.std.specs.Prelude.{◌≡◌, ℕ, [], ◌∷◌, ◌-◌, ◌/◌, ◌^◌, ◌<◌, ◌≤◌, IfOk, OnOk, bit_or};
 ghost use Rattle.ap_net.specs.Cells.{IsNet};
-ghost use Rattle.ap_net.specs.Draft.{CanFresh, Makes, Means};
+ghost use Rattle.ap_net.specs.Draft.{CanFresh, Means};
+ghost use Rattle.ap_net.specs.Making.{Makes};
+ghost use Rattle.ap_net.specs.Readings.{Carries};
+ghost use Rattle.ap_net.specs.Pending.{Yields};
 ghost use Rattle.ap_bits.specs.Operations.{zeros_above};
 
 use crate::parts::{upper_bits, widened};
@@ -19,6 +22,7 @@ fn or_above(out: &mut Builder, x: Wire, places: u32) -> Result<Wire, NoMemory>
     ensures net { IfOk result (λ y. IsNet out.new.nets y × (y.width ≡ x.width)) }
     ensures value { IfOk result (λ y. Means out.old out.new (λ read.
         read y.number ≡ bit_or (read x.number) (read x.number / 2 ^ places))) }
+    ensures reads { IfOk result (Yields (x.number ∷ []) out.old out.new) }
     ensures makes { OnOk result (Makes out.old out.new) }
 {
     let above = upper_bits(out, x, places)?;
@@ -35,6 +39,9 @@ pub fn running_or(out: &mut Builder, x: Wire) -> Result<Wire, NoMemory>
     ensures net { IfOk result (λ y. IsNet out.new.nets y × (y.width ≡ x.width)) }
     ensures value { IfOk result (λ y. Means out.old out.new (λ read.
         read y.number ≡ 2 ^ (x.width - zeros_above x.width (read x.number)) - 1)) }
+    ensures carries { IfOk result (Carries out.new x.width (λ r y.
+        y ≡ 2 ^ (x.width - zeros_above x.width (r.read x.number)) - 1)) }
+    ensures reads { IfOk result (Yields (x.number ∷ []) out.old out.new) }
     ensures makes { OnOk result (Makes out.old out.new) }
 {
     let mut run = x;

@@ -1,7 +1,10 @@
 //! Shifts by levels: level i moves a value by 2^i places where bit i of the shift is 1.
-ghost use Rattle.std.specs.Prelude.{◌≡◌, ℕ, ◌+◌, ◌-◌, ◌*◌, ◌/◌, ◌%◌, ◌^◌, ◌<◌, ◌≤◌, ◌==◌, if◌then◌else◌, IfOk, OnOk};
+ghost use Rattle.std.specs.Prelude.{◌≡◌, ℕ, [], ◌∷◌, ◌+◌, ◌-◌, ◌*◌, ◌/◌, ◌%◌, ◌^◌, ◌<◌, ◌≤◌, ◌==◌, if◌then◌else◌, IfOk, OnOk};
 ghost use Rattle.ap_net.specs.Cells.{IsNet};
-ghost use Rattle.ap_net.specs.Draft.{CanFresh, Makes, Means};
+ghost use Rattle.ap_net.specs.Draft.{CanFresh, Means};
+ghost use Rattle.ap_net.specs.Making.{Makes};
+ghost use Rattle.ap_net.specs.Readings.{Carries};
+ghost use Rattle.ap_net.specs.Pending.{Yields};
 ghost use Rattle.ap_comb.specs.Moves.{moved_left, moved_right, moved, inlet};
 
 use crate::parts::{bit, lower_bits, repeated, upper_bits};
@@ -31,6 +34,7 @@ fn incoming(out: &mut Builder, x: Wire, turn: Wire, places: u32) -> Result<Wire,
     ensures value { IfOk result (λ y. Means out.old out.new (λ read.
         read y.number ≡ (if read turn.number == 1
         then read x.number / 2 ^ (x.width - places) else 0))) }
+    ensures reads { IfOk result (Yields (x.number ∷ turn.number ∷ []) out.old out.new) }
     ensures makes { OnOk result (Makes out.old out.new) }
 {
     let gone = upper_bits(out, x, x.width - places)?;
@@ -51,6 +55,7 @@ fn move_left(out: &mut Builder, x: Wire, turn: Wire, places: u32) -> Result<Wire
     ensures net { IfOk result (λ y. IsNet out.new.nets y × (y.width ≡ x.width)) }
     ensures value { IfOk result (λ y. Means out.old out.new (λ read.
         read y.number ≡ moved_left (read turn.number == 1) x.width (read x.number) places)) }
+    ensures reads { IfOk result (Yields (x.number ∷ turn.number ∷ []) out.old out.new) }
     ensures makes { OnOk result (Makes out.old out.new) }
 {
     let below = incoming(out, x, turn, places)?;
@@ -71,6 +76,7 @@ fn move_right(out: &mut Builder, x: Wire, fill: Wire, places: u32) -> Result<Wir
     ensures net { IfOk result (λ y. IsNet out.new.nets y × (y.width ≡ x.width)) }
     ensures value { IfOk result (λ y. Means out.old out.new (λ read.
         read y.number ≡ moved_right (read fill.number == 1) x.width (read x.number) places)) }
+    ensures reads { IfOk result (Yields (x.number ∷ fill.number ∷ []) out.old out.new) }
     ensures makes { OnOk result (Makes out.old out.new) }
 {
     let above = repeated(out, fill, places)?;
@@ -90,6 +96,7 @@ fn move_by(out: &mut Builder, way: Way, x: Wire, places: u32) -> Result<Wire, No
     ensures net { IfOk result (λ y. IsNet out.new.nets y × (y.width ≡ x.width)) }
     ensures value { IfOk result (λ y. Means out.old out.new (λ read.
         read y.number ≡ moved read way x.width (read x.number) places)) }
+    ensures reads { IfOk result (Yields (x.number ∷ (inlet way).number ∷ []) out.old out.new) }
     ensures makes { OnOk result (Makes out.old out.new) }
 {
     match way {
@@ -113,6 +120,8 @@ fn level(out: &mut Builder, way: Way, x: Wire, by: Wire, places: u32) -> Result<
     ensures value { IfOk result (λ y. Means out.old out.new (λ read.
         read y.number ≡ (if read by.number == 1
         then moved read way x.width (read x.number) places else read x.number))) }
+    ensures reads { IfOk result
+        (Yields (x.number ∷ (inlet way).number ∷ by.number ∷ []) out.old out.new) }
     ensures makes { OnOk result (Makes out.old out.new) }
 {
     let away = move_by(out, way, x, places)?;
@@ -139,6 +148,10 @@ pub fn shift_by_levels(
     ensures net { IfOk result (λ y. IsNet out.new.nets y × (y.width ≡ x.width)) }
     ensures value { IfOk result (λ y. Means out.old out.new (λ read.
         read y.number ≡ moved read way x.width (read x.number) (read by.number % 2 ^ count))) }
+    ensures carries { IfOk result (Carries out.new x.width (λ r y.
+        y ≡ moved r.read way x.width (r.read x.number) (r.read by.number % 2 ^ count))) }
+    ensures reads { IfOk result
+        (Yields (x.number ∷ (inlet way).number ∷ by.number ∷ []) out.old out.new) }
     ensures makes { OnOk result (Makes out.old out.new) }
 {
     let mut shifted = x;

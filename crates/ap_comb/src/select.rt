@@ -1,8 +1,12 @@
 //! The choice of a net by its number: a balanced tree of `? :` over the bits of the number.
-ghost use Rattle.std.specs.Prelude.{◌≡◌, ℕ, ◌+◌, ◌/◌, ◌%◌, ◌^◌, ◌<◌, ◌≤◌, IfOk, IfSome, OnOk, All, length, slice_get, slice_index};
+ghost use Rattle.std.specs.Prelude.{◌≡◌, ℕ, ◌∷◌, ◌+◌, ◌/◌, ◌%◌, ◌^◌, ◌<◌, ◌≤◌, IfOk, IfSome, OnOk, All, length, slice_get, slice_index};
 ghost use Rattle.ap_net.specs.Cells.{IsNet};
-ghost use Rattle.ap_net.specs.Draft.{CanFresh, Makes, Means};
-ghost use Rattle.ap_comb.specs.Choices.{IsOfWidth, values_of, pair_value};
+ghost use Rattle.ap_net.specs.Draft.{CanFresh, Means};
+ghost use Rattle.ap_net.specs.Making.{Makes};
+ghost use Rattle.ap_net.specs.Ready.{numbers};
+ghost use Rattle.ap_net.specs.Readings.{Carries};
+ghost use Rattle.ap_net.specs.Pending.{Yields};
+ghost use Rattle.ap_comb.specs.Choices.{IsOfWidth, YieldsEach, values_of, pair_value, pair_numbers};
 
 use crate::parts::bit;
 use ap_bits::NoMemory;
@@ -20,6 +24,7 @@ fn one_of(out: &mut Builder, bit: Wire, first: Wire, second: Option<Wire>) -> Re
     ensures net { IfOk result (IsOfWidth out.new.nets first.width) }
     ensures value { IfOk result (λ y. Means out.old out.new (λ read.
         read y.number ≡ pair_value read (read bit.number) first second)) }
+    ensures reads { IfOk result (Yields (pair_numbers bit first second) out.old out.new) }
     ensures makes { OnOk result (Makes out.old out.new) }
 {
     let Some(second) = second else {
@@ -52,6 +57,8 @@ fn halved(out: &mut Builder, bit: Wire, level: &[Wire], width: u32) -> Result<Ve
         (j : ℕ) → j < length level.now → read bit.number ≡ j % 2
         → slice_index (values_of read made.items) (j / 2)
         ≡ slice_index (values_of read level.now) j)) }
+    ensures reads { IfOk result (λ made.
+        YieldsEach (bit.number ∷ numbers level.now) out.old out.new made.items) }
     ensures makes { OnOk result (Makes out.old out.new) }
 {
     let mut made = Vec::new(out.allocator());
@@ -77,6 +84,10 @@ pub fn select(out: &mut Builder, sel: Wire, choices: &[Wire], width: u32) -> Res
     ensures value { IfOk result (λ y. Means out.old out.new (λ read.
         read sel.number < length choices.now
         → read y.number ≡ slice_index (values_of read choices.now) (read sel.number))) }
+    ensures carries { IfOk result (Carries out.new width (λ r y.
+        r.read sel.number < length choices.now
+        → y ≡ slice_index (values_of r.read choices.now) (r.read sel.number))) }
+    ensures reads { IfOk result (Yields (sel.number ∷ numbers choices.now) out.old out.new) }
     ensures makes { OnOk result (Makes out.old out.new) }
 {
     let mut level = Vec::from_slice(out.allocator(), choices)?;

@@ -1,7 +1,8 @@
 //! The kind `shift`: shifts to the left and to the right, and a rotation.
 ghost use Rattle.std.specs.Prelude.{◌≡◌, ℕ, ◌-◌, ◌/◌, ◌%◌, ◌^◌, ◌<◌, ◌≤◌, ◌==◌, nat_lt, if◌then◌else◌, IfOk, OnOk, slice_get, Some, bit_and, bit_or, bit_xor, length, IsTrue, ◌∷◌, [], codes};
 ghost use Rattle.ap_net.specs.Cells.{IsNet, AreOfOneWidth};
-ghost use Rattle.ap_net.specs.Draft.{CanFresh, Makes, Means};
+ghost use Rattle.ap_net.specs.Draft.{CanFresh, Means};
+ghost use Rattle.ap_net.specs.Making.{Makes};
 ghost use Rattle.ap_bits.specs.declared.term.BinOp.{BinOp};
 ghost use Rattle.ap_bits.specs.Operations.{binary_value};
 ghost use Rattle.ap_comb.specs.Moves.{moved_left, moved_right};

@@ -1,7 +1,10 @@
 //! How many bits are 1, by a balanced tree of sums.
-ghost use Rattle.std.specs.Prelude.{◌≡◌, ℕ, ◌+◌, ◌/◌, ◌^◌, ◌<◌, ◌≤◌, IfOk, OnOk};
+ghost use Rattle.std.specs.Prelude.{◌≡◌, ℕ, [], ◌∷◌, ◌+◌, ◌/◌, ◌^◌, ◌<◌, ◌≤◌, IfOk, OnOk};
 ghost use Rattle.ap_net.specs.Cells.{IsNet};
-ghost use Rattle.ap_net.specs.Draft.{CanFresh, Makes, Means};
+ghost use Rattle.ap_net.specs.Draft.{CanFresh, Means};
+ghost use Rattle.ap_net.specs.Making.{Makes};
+ghost use Rattle.ap_net.specs.Readings.{Carries};
+ghost use Rattle.ap_net.specs.Pending.{Yields};
 ghost use Rattle.ap_bits.specs.Operations.{ones_among};
 
 use crate::parts::{bit, widened};
@@ -20,6 +23,7 @@ fn wide_bit(out: &mut Builder, x: Wire, place: u32, width: u32) -> Result<Wire, 
     ensures net { IfOk result (λ y. IsNet out.new.nets y × (y.width ≡ width)) }
     ensures value { IfOk result (λ y. Means out.old out.new (λ read.
         read y.number ≡ ones_among 1 (read x.number / 2 ^ place))) }
+    ensures reads { IfOk result (Yields (x.number ∷ []) out.old out.new) }
     ensures makes { OnOk result (Makes out.old out.new) }
 {
     let narrow = bit(out, x, place)?;
@@ -40,6 +44,7 @@ fn ones_from(out: &mut Builder, x: Wire, low: u32, count: u32, width: u32) -> Re
     ensures net { IfOk result (λ y. IsNet out.new.nets y × (y.width ≡ width)) }
     ensures value { IfOk result (λ y. Means out.old out.new (λ read.
         read y.number ≡ ones_among count (read x.number / 2 ^ low))) }
+    ensures reads { IfOk result (Yields (x.number ∷ []) out.old out.new) }
     ensures makes { OnOk result (Makes out.old out.new) }
 {
     if count == 1 {
@@ -60,6 +65,9 @@ pub fn ones(out: &mut Builder, x: Wire) -> Result<Wire, NoMemory>
     ensures net { IfOk result (λ y. IsNet out.new.nets y × (y.width ≡ x.width)) }
     ensures value { IfOk result (λ y. Means out.old out.new (λ read.
         read y.number ≡ ones_among x.width (read x.number))) }
+    ensures carries { IfOk result (Carries out.new x.width (λ r y.
+        y ≡ ones_among x.width (r.read x.number))) }
+    ensures reads { IfOk result (Yields (x.number ∷ []) out.old out.new) }
     ensures makes { OnOk result (Makes out.old out.new) }
 {
     let counted = ones_from(out, x, 0, x.width, x.width.min(7))?;

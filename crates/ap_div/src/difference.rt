@@ -1,7 +1,8 @@
 //! A difference, and whether the second operand goes into the first. The highest bits tell it, with no further comparison.
 ghost use Rattle.std.specs.Prelude.{◌≡◌, ◌≤◌, IfOk, OnOk};
 ghost use Rattle.ap_net.specs.Cells.{IsNet};
-ghost use Rattle.ap_net.specs.Draft.{CanFresh, Makes};
+ghost use Rattle.ap_net.specs.Draft.{CanFresh};
+ghost use Rattle.ap_net.specs.Making.{Makes};
 ghost use Rattle.ap_unit.specs.Stepping.{Gives};
 ghost use Rattle.ap_div.specs.Differences.{difference_at, cover_of, cover_by};
 

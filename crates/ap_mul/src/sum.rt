@@ -1,7 +1,8 @@
 //! A sum with its carry, which the subset has no operator for: no net is wider than 64 bits.
 ghost use Rattle.std.specs.Prelude.{◌≡◌, ◌≤◌, IfOk, OnOk};
 ghost use Rattle.ap_net.specs.Cells.{IsNet};
-ghost use Rattle.ap_net.specs.Draft.{CanFresh, Makes};
+ghost use Rattle.ap_net.specs.Draft.{CanFresh};
+ghost use Rattle.ap_net.specs.Making.{Makes};
 ghost use Rattle.ap_unit.specs.Stepping.{Gives};
 ghost use Rattle.ap_mul.specs.Sums.{sum_at, carry_at, carry_by};
 

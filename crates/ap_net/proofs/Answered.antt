@@ -12,7 +12,7 @@ use Rattle.ap_net.specs.declared.net.FlatNet.{FlatNet}
 use Rattle.ap_net.specs.Outside.{Outside, InPort, input, output, mem_name, input_ports, mem_ports, group_ports, ports_of, shape_of}
 use Rattle.ap_net.specs.Flat.{value_named}
 use Rattle.ap_net.specs.Runs.{bit, InputsAre, MemsAnswer, mems_after}
-use Rattle.ap_net.specs.Answering.{first_mem_port, mem_gives, port_gives, mem_looks, port_looks}
+use Rattle.ap_net.specs.Answering.{first_mem_port, mem_gives, port_gives, mem_looks, port_looks, address_port}
 
 -- each value fits its port; the ports behind are given nothing here
 abbrev pub PortsTake : List Port → List ℕ → Type 0
@@ -61,7 +61,7 @@ rest_take o line mems read ports fits = inputs_take o.inputs line.ports ports (m
 pub ports_take : (o : Outside) (code : List ℕ) (line : TraceLine) (mems : List (List ℕ)) (read : ℕ → ℕ) → Each (λ word. word < 2 ^ o.word) code → LineFitsShape line (shape_of o) → MemsFit mems o.mems
     → PortsTake (ports_of o) (port_gives o code line mems read)
 ports_take o code line mems read words ports fits = subst (λ l. PortsTake l (port_gives o code line mems read)) (sym (ports_split o))
-    (pow_pos o.address, (word_fits code o.word (read 0) words, (bit_fits line.wait, rest_take o line mems read ports fits)))
+    (pow_pos o.address, (word_fits code o.word (read address_port) words, (bit_fits line.wait, rest_take o line mems read ports fits)))
 
 -- What is given depends on what is looked at. ------------------------------------------------------------------------------
 

@@ -1,7 +1,8 @@
 -- What holds of a draft in every reading goes on where the draft grows.
 use Rattle.std.proofs.Common.{◌≡◌, ℕ}
 use Rattle.ap_net.specs.declared.cell.Wire.{Wire}
-use Rattle.ap_net.specs.Draft.{Draft, Extends, Makes, Means}
+use Rattle.ap_net.specs.Draft.{Draft, Extends, Means}
+use Rattle.ap_net.specs.Making.{Makes}
 use Rattle.ap_net.specs.Cells.{IsNet}
 use Rattle.ap_net.specs.Readings.{Reading, IsSettled, Always, Carries}
 use Rattle.ap_net.proofs.Placing.{SettlesOpen-before}

@@ -24,6 +24,7 @@ pub mod Beside
 pub mod Facts
 pub mod Walked
 pub mod Growing
+pub mod Making
 pub mod Feeding
 pub mod Levels
 pub mod Orders

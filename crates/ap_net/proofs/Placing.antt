@@ -1,10 +1,8 @@
--- An instance over ready nets and fresh wires is a piece of circuit.
-use Rattle.std.proofs.Common.{◌≡◌, ◌≢◌, ℕ, suc, zero, ◌+◌, ◌<◌, ◌≤◌, max, List, [], ◌∷◌, ◌++◌, length, get_or, map, take, drop, Some, Bool, true, false, refl, sym, ap, subst, ◌∙◌, arith, ⊎_elim, append-nil, append_assoc, length-append, add-one, eq-eqb, drop-cons}
-use Rattle.std.specs.Prelude.{slice_get, ◌==◌, nat_lt, if◌then◌else◌}
-use Rattle.std.specs.Bool.{Decides}
+-- An instance over declared nets and fresh wires is a piece of circuit.
+use Rattle.std.proofs.Common.{◌≡◌, ◌≢◌, ℕ, suc, zero, ◌+◌, ◌-◌, ◌<◌, ◌≤◌, List, [], ◌∷◌, ◌++◌, length, get_or, map, take, drop, Some, Bool, true, false, refl, sym, ap, subst, ◌∙◌, arith, ⊎_elim, append-nil, append_assoc, length-append, add-one, drop-cons}
+use Rattle.std.specs.Prelude.{slice_get, if◌then◌else◌}
 use Rattle.std.specs.List.{AllByRecursion as Each}
-use Rattle.std.proofs.lemmas.Bool.{cases_lt, lt-ltb, le-ltb}
-use Rattle.std.proofs.lemmas.Bool.Decides.{Decides-eqb}
+use Rattle.std.proofs.lemmas.Bool.{cases_lt}
 use Rattle.std.proofs.lemmas.List.{map-append, take_more}
 use Rattle.std.proofs.lemmas.List.Elements.{filter_map-append}
 use Rattle.std.proofs.lemmas.List.Sums.{sum_by-append}
@@ -16,17 +14,19 @@ use Rattle.ap_net.specs.declared.net.Port.{Port}
 use Rattle.ap_net.specs.declared.net.Assign.{Assign}
 use Rattle.ap_net.specs.declared.net.Instance.{Instance}
 use Rattle.ap_net.specs.Names.{IsNew, IsNotNumbered, HasFresh, numbered}
-use Rattle.ap_net.specs.Cells.{IsNet, operands}
-use Rattle.ap_net.specs.Wiring.{IsSource, IsFree, IsWired, IsConnected, IsOrdered, Undriven, Unjoined, NoneTwice, Ranked, driven_among, driven_by, names_taken, taken_names, reset_of}
-use Rattle.ap_net.specs.Modules.{ModuleText, IsInstanceIn, nets_of, outputs, module_named, port_by, ports_among}
-use Rattle.ap_net.specs.Opened.{OrdersPart, Follows, IsOpenOrder, AreOrdered}
-use Rattle.ap_net.specs.Draft.{Draft, Extends, OpensOn, Opens, GrowsUp, Adds, Closes, Makes, SettlesOpen, names_of, wire_count, is_wire}
+use Rattle.ap_net.specs.Cells.{IsNet}
+use Rattle.ap_net.specs.Wiring.{IsSource, IsFree, IsWired, IsConnected, Undriven, Unjoined, NoneTwice, driven_among, driven_by, names_taken, taken_names, reset_of}
+use Rattle.ap_net.specs.Modules.{ModuleText, outputs, port_by, ports_among}
+use Rattle.ap_net.specs.Draft.{Draft, Extends, Adds, SettlesOpen, names_of, wire_count, is_wire}
+use Rattle.ap_net.specs.Ready.{Dependence, Ready, needed, output}
+use Rattle.ap_net.specs.Making.{Closes, Makes}
 use Rattle.ap_net.specs.Placing.{Places, output_widths, input_widths, wires_from, fresh_nets, merged, output_wires, placed_instance, with_placed}
-use Rattle.ap_net.proofs.Lists.{All-join, All-front, All-back, All-from, All-both, get_left, get_either, some_same}
-use Rattle.ap_net.proofs.Wired.{IsNet-more, IsNet-end, number-IsNet, declared}
-use Rattle.ap_net.proofs.Connected.{driven_by-append, driven_within}
-use Rattle.ap_net.proofs.Drafts.{Settles-before, IsOpenOrder-agree, Adds-trans, Closes-trans, one_more_net}
-use Rattle.ap_net.proofs.Parts.{All-named, port_at}
+use Rattle.ap_net.proofs.Lists.{All-join, All-front, All-back, All-from, get_left, get_either, get_end, some_same}
+use Rattle.ap_net.proofs.Wired.{IsNet-more, IsNet-end, number-IsNet}
+use Rattle.ap_net.proofs.Connected.{driven_within}
+use Rattle.ap_net.proofs.Drafts.{Settles-before, Adds-trans}
+use Rattle.ap_net.proofs.Growing.{ReadyAfter-Feeds}
+use Rattle.ap_net.proofs.Making.{Closes-trans}
 use Rattle.ap_net.proofs.Numbering.{count_cons}
 
 -- Lists by the flags of ports. -------------------------------------------------------------------------------------------
@@ -91,6 +91,26 @@ driven-merged (p ∷ ports) inputs outs e f = go (driven-merged ports) p.output 
     go later false [] outs e f = cc
     go later false (w ∷ inputs) outs e f = let tail : map (λ (w : Wire). w.width) inputs ≡ input_widths ports = cc in later inputs outs tail f
 
+-- what is driven stands at an output
+pub is_driven : (drives : List Bool) (nets : List Wire) (j n : ℕ) → slice_get (driven_among drives nets) j ≡ Some n → (p : ℕ) × (w : Wire) × (slice_get nets p ≡ Some w) × (slice_get drives p ≡ Some true) × (w.number ≡ n)
+is_driven [] nets j n at = cc
+is_driven (d ∷ drives) [] j n at = cc
+is_driven (true ∷ drives) (w ∷ nets) zero n at = (0, w, refl, refl, some_same at)
+is_driven (true ∷ drives) (w ∷ nets) (suc j) n at = let later = is_driven drives nets j n at in (suc later.0, later.1, later.2, later.3, later.4)
+is_driven (false ∷ drives) (w ∷ nets) j n at = let later = is_driven drives nets j n at in (suc later.0, later.1, later.2, later.3, later.4)
+
+-- what is needed of merged nets is among the inputs
+pub needed_merged : (P : ℕ → Type 0) (needs : ℕ → Bool) (drives : List Bool) (inputs outs : List Wire) → Each (λ (w : Wire). P w.number) inputs → Each P (needed needs drives (merged drives inputs outs))
+needed_merged P needs [] inputs outs h = tt
+needed_merged P needs (true ∷ drives) inputs [] h = tt
+needed_merged P needs (true ∷ drives) inputs (w ∷ outs) h = needed_merged P (λ q. needs (suc q)) drives inputs outs h
+needed_merged P needs (false ∷ drives) [] outs h = tt
+needed_merged P needs (false ∷ drives) (w ∷ inputs) outs h = go (needs 0) (needed_merged P (λ q. needs (suc q)) drives inputs outs h.1)
+  where
+    go : (b : Bool) → Each P (needed (λ q. needs (suc q)) drives (merged drives inputs outs)) → Each P (if b then w.number ∷ needed (λ q. needs (suc q)) drives (merged drives inputs outs) else needed (λ q. needs (suc q)) drives (merged drives inputs outs))
+    go true rest = (h.0, rest)
+    go false rest = rest
+
 -- Fresh wires. -----------------------------------------------------------------------------------------------------------
 
 pub wires_from-above : (n : ℕ) (widths : List ℕ) → Each (λ (w : Wire). n ≤ w.number) (wires_from n widths)
@@ -104,6 +124,11 @@ numbers-above n (width ∷ widths) = (omega arith, All-from (λ m. n + 1 ≤ m) 
 numbers-apart : (n : ℕ) (widths : List ℕ) → NoneTwice (map (λ (w : Wire). w.number) (wires_from n widths))
 numbers-apart n [] = tt
 numbers-apart n (width ∷ widths) = (All-from (λ m. n + 1 ≤ m) (λ m. m ≢ n) (λ m le e. omega arith) (map (λ (w : Wire). w.number) (wires_from (n + 1) widths)) (numbers-above (n + 1) widths), numbers-apart (n + 1) widths)
+
+wire_number_at : (n : ℕ) (widths : List ℕ) (j : ℕ) → j < length widths → slice_get (map (λ (w : Wire). w.number) (wires_from n widths)) j ≡ Some (n + j)
+wire_number_at n [] j lt = absurd (omega arith)
+wire_number_at n (width ∷ widths) zero lt = let e : n ≡ n + 0 = omega arith in ap Some e
+wire_number_at n (width ∷ widths) (suc j) lt = let e : n + 1 + j ≡ n + suc j = omega arith in wire_number_at (n + 1) widths j (omega arith) ∙ ap Some e
 
 -- each fresh wire is declared behind the nets
 pub wires_from-IsNet : (nets : List ModuleNet) (count : ℕ) (widths : List ℕ) → Each (λ w. (1 ≤ w) × (w ≤ 64)) widths → Each (IsNet (nets ++ fresh_nets count widths)) (wires_from (length nets) widths)
@@ -283,19 +308,6 @@ Merging-input ports inputs outs nets i used driven p w lt e off lt' e' h =
 
 -- A placed instance as a piece of circuit. ------------------------------------------------------------------------------
 
--- a number that is at least a function's values below n
-abbrev pub bound : (ℕ → ℕ) → ℕ → ℕ
-bound f zero = 0
-bound f (suc n) = max (f n) (bound f n)
-
-pub bound-above : (f : ℕ → ℕ) (n i : ℕ) → i < n → f i ≤ bound f n
-bound-above f zero i lt = absurd (omega arith)
-bound-above f (suc n) i lt = ⊎_elim (λ h. let up = bound-above f n i h in omega arith) (λ h. let same : f i ≡ f n = ap f (let e : i ≡ n = omega arith in e) in omega arith) (cases_lt i n)
-
-is_false : (b : Bool) (P : Type 0) → Decides b P → (P → ⊥) → b ≡ false
-is_false true P d p = absurd (p (d.0 refl))
-is_false false P d p = refl
-
 -- the connected nets are as wide as the ports
 pub placed-widths : (n : ℕ) (m : ModuleText) (inputs : List Wire) → map (λ (w : Wire). w.width) inputs ≡ input_widths m.ports → map (λ (w : Wire). w.width) (merged (outputs m) inputs (output_wires n m)) ≡ map (λ (p : Port). p.width) m.ports
 placed-widths n m inputs wide = merged-widths m.ports inputs (output_wires n m) wide (width-wires_from n (output_widths m.ports))
@@ -348,115 +360,32 @@ module _ (d : Draft) (name : List ℕ) (m : ModuleText) (inputs : List Wire) (wi
   extends : Extends d new
   extends = record { name = refl; nets = (more, refl); assigns = ([], sym (append-nil d.assigns)); nexts = ([], sym (append-nil d.nexts)); instances = (placed ∷ [], refl) }
 
-  module _ (modules : List ModuleText) (ordered : AreOrdered modules) (within : Each (IsInstanceIn modules) (d.instances ++ placed ∷ [])) (rank : ℕ → ℕ) (parts : ℕ → ℕ → ℕ)
-      (h : IsOpenOrder modules d.assigns d.instances rank parts) where
-    here : IsInstanceIn modules placed
-    here = (All-back (IsInstanceIn modules) d.instances (placed ∷ []) within).0
-
-    inner : IsOrdered (here.whole).assigns
-    inner = (All-named (λ (x : ModuleText). IsOrdered x.assigns) modules (placed.module) here.whole ordered here.found).0
-
-    -- above every rank of the nets so far
-    abbrev low : ℕ
-    low = bound rank count
-
-    -- the ranks of the placed part lie above low, those of the fresh wires above them
-    abbrev part : ℕ → ℕ
-    part n = low + 1 + inner.0 n
-
-    abbrev high : ℕ
-    high = low + 2 + bound inner.0 (length (nets_of here.whole))
-
-    abbrev after : ℕ → ℕ
-    after n = if nat_lt n count then rank n else high
-
-    abbrev parts_after : ℕ → ℕ → ℕ
-    parts_after k = if k == length d.instances then part else parts k
-
-    old_rank : (n : ℕ) → n < count → after n ≡ rank n
-    old_rank n lt = rw (lt-ltb n count lt) refl
-
-    new_rank : (n : ℕ) → count ≤ n → after n ≡ high
-    new_rank n le = rw (le-ltb n count le) refl
-
-    ranked : Ranked after d.assigns
-    ranked = All-both (λ (a : Assign). IsNet d.nets a.to × Each (IsNet d.nets) (operands a.cell)) (λ (a : Assign). Each (λ (o : Wire). rank o.number < rank a.to.number) (operands a.cell)) (λ (a : Assign). Each (λ (o : Wire). after o.number < after a.to.number) (operands a.cell))
-        (λ a both lower. All-both (IsNet d.nets) (λ (o : Wire). rank o.number < rank a.to.number) (λ (o : Wire). after o.number < after a.to.number)
-        (λ o net lt. let e = old_rank o.number (number-IsNet d.nets o net) in let f = old_rank a.to.number (number-IsNet d.nets a.to both.0) in rw (e, f) lt) (operands a.cell) both.1 lower)
-        d.assigns
-        (All-both (λ (a : Assign). IsNet d.nets a.to) (λ (a : Assign). Each (IsNet d.nets) (operands a.cell)) (λ (a : Assign). IsNet d.nets a.to × Each (IsNet d.nets) (operands a.cell)) (λ a p q. (p, q)) d.assigns wired.results (declared d.nets d.assigns d.nexts wired)) h.ranked
-
-    old_parts : IsOpenOrder modules d.assigns d.instances after parts
-    old_parts = IsOpenOrder-agree d.nets modules d.assigns d.assigns d.instances rank after parts connected.declared old_rank ranked h
-
-    follows : (flag : Bool) (w : Wire) (p : ℕ) → ByFlag (λ (x : Wire). x.number < count) (λ (x : Wire). count ≤ x.number) flag w → p < length (nets_of here.whole) → Follows flag (after w.number) (part p)
-    follows true w p le lt = let e = new_rank w.number le in let b = bound-above inner.0 (length (nets_of here.whole)) p lt in rw e (omega arith)
-    follows false w p lt within = let e = old_rank w.number lt in let b = bound-above rank count w.number lt in rw e (omega arith)
-
-    placed_part : OrdersPart here.whole placed after part
-    placed_part = record {
-      ranked = All-from (λ (a : Assign). Each (λ (o : Wire). inner.0 o.number < inner.0 a.to.number) (operands a.cell)) (λ (a : Assign). Each (λ (o : Wire). part o.number < part a.to.number) (operands a.cell))
-          (λ a. All-from (λ (o : Wire). inner.0 o.number < inner.0 a.to.number) (λ (o : Wire). part o.number < part a.to.number) (λ o lt. omega arith) (operands a.cell)) (here.whole).assigns inner.1;
-      joined = λ p w flag at is.
-          let port = port_at here.whole placed here.connects p w at in
-          follows flag w p
-          (merged-at (λ (x : Wire). x.number < count) (λ (x : Wire). count ≤ x.number) (outputs m) inputs outs (All-from (IsNet d.nets) (λ (x : Wire). x.number < count) (number-IsNet d.nets) inputs nets) (wires_from-above count widths) p w flag at is)
-          (slice_get_within (nets_of here.whole) p _ port.1);
-    }
-
-    part_here : (k : ℕ) → k ≡ length d.instances → parts_after k ≡ part
-    part_here k e = rw (eq-eqb k (length d.instances) e) refl
-
-    part_before : (k : ℕ) → k < length d.instances → parts_after k ≡ parts k
-    part_before k lt = rw (is_false (k == length d.instances) (k ≡ length d.instances) (Decides-eqb k (length d.instances)) (λ e. absurd (omega arith))) refl
-
-    pub placed-opens : OpensOn modules d new rank parts
-    placed-opens = record {
-      after = after;
-      parts_after = parts_after;
-      agrees = old_rank;
-      order = record {
-        ranked = ranked;
-        each = λ k i x at found.
-            ⊎_elim
-            (λ there. subst (OrdersPart x i after) (sym (part_before k (slice_get_within d.instances k i there))) (old_parts.each k i x there found))
-            (λ e.
-            let same : i ≡ placed = e.1 in
-            let same' : here.whole ≡ x = some_same (sym here.found ∙ ap (λ (y : Instance). module_named modules y.module) (sym same) ∙ found) in
-            subst (OrdersPart x i after) (sym (part_here k e.0)) (subst (λ (y : Instance). OrdersPart x y after part) (sym same) (subst (λ (y : ModuleText). OrdersPart y placed after part) same' placed_part)))
-            (one_more_net d.instances placed k i at);
-      };
-    }
-
   pub placed-Adds : Adds d new
-  unfolding Opens GrowsUp
-  placed-Adds = record {
-    extends = extends;
-    nexts = refl;
-    order = λ rank h. record { after = rank; agrees = λ n lt. refl; ranked = h };
-    opens = placed-opens;
-    grows = ([], sym (append-nil d.assigns), tt);
-  }
-
-  -- an output stands where its number says
-  output_driven : (n j : ℕ) (ws : List ℕ) (k : ℕ) (net : ModuleNet) → slice_get (fresh_nets j ws) k ≡ Some net → Each (λ x. x ≢ n + k) (map (λ (w : Wire). w.number) (wires_from n ws)) → ⊥
-  output_driven n j [] k net at none = cc
-  output_driven n j (w ∷ ws) zero net at none = none.0 (omega arith)
-  output_driven n j (w ∷ ws) (suc k) net at none = let e : n + suc k ≡ n + 1 + k = omega arith in output_driven (n + 1) (j + 1) ws k net at (subst (λ t. Each (λ x. x ≢ t) (map (λ (w : Wire). w.number) (wires_from (n + 1) ws))) e none.1)
+  placed-Adds = record { extends = extends; nexts = refl }
 
   not_register : (net : ModuleNet) → net.role ≡ role.Plain → net.role ≡ role.Register (reset_of net.role) → ⊥
   not_register net e f = let g : role.Plain ≡ role.Register (reset_of net.role) = sym e ∙ f in cc
 
+  -- the net that came with this number stands at an output, which needs inputs alone
+  output_ready : (by : Dependence) (later : Draft) → Extends new later → ((n : ℕ) → n < count → Ready by later n) → (j : ℕ) → j < length widths → Ready by later (count + j)
+  output_ready by later e old j lt =
+      let there : slice_get (driven_among (outputs m) whole) j ≡ Some (count + j) = ap (λ l. slice_get l j) numbers ∙ wire_number_at count widths j lt in
+      let at = is_driven (outputs m) whole j (count + j) there in
+      ReadyAfter-Feeds by new (count + j) (needed (by.needs placed.module at.0) placed.drives placed.nets)
+      (output (length d.instances) at.0 placed at.1 (get_end d.instances placed) at.2 at.3 at.4 refl) later e
+      (needed_merged (Ready by later) (by.needs placed.module at.0) (outputs m) inputs outs
+      (All-from (IsNet d.nets) (λ (w : Wire). Ready by later w.number) (λ w net. old w.number (number-IsNet d.nets w net)) inputs nets))
+
   pub placed-Closes : Closes d new
   placed-Closes = record {
-    driven = λ old n net at no_source none unjoined.
-        let all : Each (λ x. x ≢ n) (driven_by d.instances ++ driven_by (placed ∷ [])) = subst (Each (λ x. x ≢ n)) (driven_by-append d.instances (placed ∷ [])) unjoined in
+    ready = λ by later e old n lt.
+        let long : length (d.nets ++ more) ≡ count + length more = length-append d.nets more in
+        let wide : length more ≡ length widths = length-fresh_nets (wire_count d.nets) widths in
         ⊎_elim
-        (λ there. old n net there no_source none (All-front (λ x. x ≢ n) (driven_by d.instances) (driven_by (placed ∷ [])) all))
-        (λ h.
-        let own : Each (λ x. x ≢ n) (driven_among (outputs m) whole) = subst (Each (λ x. x ≢ n)) (append-nil (driven_among (outputs m) whole)) (All-back (λ x. x ≢ n) (driven_by d.instances) (driven_by (placed ∷ [])) all) in
-        output_driven count (wire_count d.nets) widths h.0 net h.2 (subst (λ t. Each (λ x. x ≢ t) (map (λ (w : Wire). w.number) outs)) h.1 (subst (Each (λ x. x ≢ n)) numbers own)))
-        (get_either d.nets more n net at);
+        (λ low. old n low)
+        (λ high. let same : count + (n - count) ≡ n = omega arith in subst (Ready by later) same (output_ready by later e old (n - count) (omega arith)))
+        (cases_lt n count);
+    own = record { more = []; assigns = sym (append-nil d.assigns); above = tt };
     registers = λ k old n net at is.
         ⊎_elim (λ there. old n net there is) (λ h. absurd (not_register net (fresh_plain (wire_count d.nets) widths h.0 net h.2) is)) (get_either d.nets more n net at);
   }
@@ -498,7 +427,7 @@ pub Places-trans : (xs ys : List Instance) (a b c : Draft) → Places xs a b →
 Places-trans xs ys a b c p q = record {
   adds = Adds-trans a b c p.adds q.adds;
   instances = q.instances ∙ ap (λ l. l ++ ys) p.instances ∙ append_assoc a.instances xs ys;
-  closes = Closes-trans a b c p.closes q.closes;
+  closes = Closes-trans a b c p.adds q.adds p.closes q.closes;
   fresh = λ h. q.fresh (p.fresh h);
   names = λ name other added new.
       let names : Each (λ x. x ≢ name) (map (λ (i : Instance). i.name) xs ++ map (λ (i : Instance). i.name) ys) = subst (Each (λ x. x ≢ name)) (map-append (λ (i : Instance). i.name) xs ys) added in

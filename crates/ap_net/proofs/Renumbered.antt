@@ -1,5 +1,5 @@
 use Rattle.std.proofs.Common.{◌≡◌, ◌≢◌, ℕ, ◌<◌, ◌≤◌, ◌^◌, suc, zero, Bool, true, false, List, [], ◌∷◌, ◌++◌, length, map, Some, refl, sym, ap, subst, ◌∙◌, arith}
-use Rattle.std.specs.Prelude.{slice_get, slice_index, codes, option_map}
+use Rattle.std.specs.Prelude.{slice_get, slice_index, codes, option_map, IsTrue}
 use Rattle.std.specs.List.{AllByRecursion as Each}
 use Rattle.std.proofs.lemmas.List.{length-map, map-append}
 use Rattle.std.proofs.lemmas.Option.{slice_get_within, slice_get-map, get_or_from_slice_get}
@@ -15,6 +15,7 @@ use Rattle.ap_net.specs.Cells.{operands, widths_of, IsNet, CellFits, cell_value}
 use Rattle.ap_net.specs.Wiring.{reset_of, IsFree, Undriven, NoneTwice, driven_among, driven_by, taken_names, DrivenOnce, ClockedOnce, NextFits, IsWired, IsConnected, IsDriven, Holds, Settles, Ranked}
 use Rattle.ap_net.specs.Modules.{placed, cell_placed, assign_placed, next_placed, instance_placed}
 use Rattle.ap_net.specs.Places.{place_by}
+use Rattle.ap_net.specs.Depends.{IsClosed}
 use Rattle.ap_net.proofs.Lists.{All-from, All-both, All-at, All-front, All-back, All-join, All-map, All-unmap, Each-at, map-map, some_same}
 use Rattle.ap_net.proofs.Connected.{driven_within}
 use Rattle.ap_net.proofs.Wired.{number-IsNet, declared}
@@ -282,3 +283,19 @@ module _ (olds news : List ModuleNet) (place back : ℕ → ℕ) (r : IsRenumber
       assigns
       (All-both (λ (a : Assign). IsNet olds a.to) (λ (a : Assign). Each (IsNet olds) (operands a.cell)) (λ (a : Assign). IsNet olds a.to × Each (IsNet olds) (operands a.cell)) (λ a p q. (p, q)) assigns wired.results (declared olds assigns nexts wired))
       h)
+
+-- a set of nets that is closed in a draft is closed in its module
+pub IsClosed-placed : (olds : List ModuleNet) (assigns : List Assign) (nexts : List Next) (place back : ℕ → ℕ) (among : ℕ → Bool) → IsWired olds assigns nexts → ((n : ℕ) → n < length olds → back (place n) ≡ n)
+    → IsClosed assigns among → IsClosed (map (assign_placed place) assigns) (λ n. among (back n))
+IsClosed-placed olds assigns nexts place back among wired returns h =
+    All-map (λ (a : Assign). IsTrue (among (back a.to.number)) → Each (λ (o : Wire). IsTrue (among (back o.number))) (operands a.cell)) (assign_placed place) assigns
+    (All-both (λ (a : Assign). IsNet olds a.to × Each (IsNet olds) (operands a.cell)) (λ (a : Assign). IsTrue (among a.to.number) → Each (λ (o : Wire). IsTrue (among o.number)) (operands a.cell))
+    (λ (a : Assign). IsTrue (among (back (place a.to.number))) → Each (λ (o : Wire). IsTrue (among (back o.number))) (operands (cell_placed place a.cell)))
+    (λ a nets closed inside. subst (Each (λ (o : Wire). IsTrue (among (back o.number)))) (sym (operands-placed place a.cell))
+    (All-map (λ (o : Wire). IsTrue (among (back o.number))) (placed place) (operands a.cell)
+    (All-both (IsNet olds) (λ (o : Wire). IsTrue (among o.number)) (λ (o : Wire). IsTrue (among (back (place o.number))))
+    (λ o net is. subst (λ n. IsTrue (among n)) (sym (returns o.number (number-IsNet olds o net))) is)
+    (operands a.cell) nets.1 (closed (subst (λ n. IsTrue (among n)) (returns a.to.number (number-IsNet olds a.to nets.0)) inside)))))
+    assigns
+    (All-both (λ (a : Assign). IsNet olds a.to) (λ (a : Assign). Each (IsNet olds) (operands a.cell)) (λ (a : Assign). IsNet olds a.to × Each (IsNet olds) (operands a.cell)) (λ a p q. (p, q)) assigns wired.results (declared olds assigns nexts wired))
+    h)

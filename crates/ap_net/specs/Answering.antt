@@ -20,6 +20,10 @@ use Rattle.ap_net.specs.Ready.{Dependence, AllReady}
 use Rattle.ap_net.specs.Pending.{Among}
 use Rattle.ap_net.specs.Responding.{AreDependent, looked_in}
 
+-- the address of the code memory is the first port
+abbrev pub address_port : ℕ
+address_port = 0
+
 -- the ports of memories follow those of the code memory, mwait and the inputs
 abbrev pub first_mem_port : Outside → ℕ
 first_mem_port o = 3 + length o.inputs
@@ -32,7 +36,7 @@ mem_gives read n (m ∷ ms) (words ∷ mems) = 0 ∷ slice_index words (read n) 
 
 -- what the ports of top are given, the memories' words being these
 abbrev pub port_gives : Outside → List ℕ → TraceLine → List (List ℕ) → (ℕ → ℕ) → List ℕ
-port_gives o code line mems read = (0 ∷ slice_index code (read 0) ∷ bit line.wait ∷ line.ports) ++ mem_gives read (first_mem_port o) o.mems mems
+port_gives o code line mems read = (0 ∷ slice_index code (read address_port) ∷ bit line.wait ∷ line.ports) ++ mem_gives read (first_mem_port o) o.mems mems
 
 -- at which ports the outside looks for each port
 abbrev pub mem_looks : ℕ → List MemShape → List (List ℕ)
@@ -40,7 +44,7 @@ mem_looks n [] = []
 mem_looks n (m ∷ ms) = [] ∷ (n ∷ []) ∷ [] ∷ [] ∷ [] ∷ mem_looks (n + 5) ms
 
 abbrev pub port_looks : Outside → List (List ℕ)
-port_looks o = ([] ∷ (0 ∷ []) ∷ [] ∷ map (λ (p : InPort). []) o.inputs) ++ mem_looks (first_mem_port o) o.mems
+port_looks o = ([] ∷ (address_port ∷ []) ∷ [] ∷ map (λ (p : InPort). []) o.inputs) ++ mem_looks (first_mem_port o) o.mems
 
 -- it looks at no other nets than these
 abbrev pub LooksByPorts : Outside → (ℕ → List ℕ) → Type 0

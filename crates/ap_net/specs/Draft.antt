@@ -1,6 +1,5 @@
 -- A module that is being built, and how a piece of circuit makes it grow.
 use Rattle.std.specs.Prelude.{◌≡◌, ◌≢◌, ℕ, ◌<◌, ◌≤◌, List, [], ◌∷◌, ◌++◌, length, codes, slice_get, Some, count_by, Bool, true, false}
-use Rattle.std.specs.List.{AllByRecursion as Each}
 use Rattle.ap_net.specs.declared.net.Role.{Role}
 use Rattle.ap_net.specs.declared.net.Role.TheVariants as role
 use Rattle.ap_net.specs.declared.net.ModuleNet.{ModuleNet}
@@ -9,11 +8,10 @@ use Rattle.ap_net.specs.declared.cell.Wire.{Wire}
 use Rattle.ap_net.specs.declared.cell.Cell.{Cell}
 use Rattle.ap_net.specs.declared.net.Next.{Next}
 use Rattle.ap_net.specs.declared.net.Instance.{Instance}
-use Rattle.ap_net.specs.Cells.{operands}
-use Rattle.ap_net.specs.Modules.{ModuleText, IsInstanceIn, ports_among}
+use Rattle.ap_net.specs.Modules.{ModuleText}
 use Rattle.ap_net.specs.Names.{HasFresh, IsNetName, IsNew, IsNotNumbered, numbered}
-use Rattle.ap_net.specs.Wiring.{IsWired, IsConnected, IsSource, reset_of, Undriven, Unjoined, Settles, Ranked, names_taken}
-use Rattle.ap_net.specs.Opened.{SolveParts, IsOpenOrder, AreOrdered}
+use Rattle.ap_net.specs.Wiring.{IsWired, IsConnected, IsSource, reset_of, Undriven, Unjoined, Settles, names_taken}
+use Rattle.ap_net.specs.Opened.{SolveParts}
 
 -- a module's name, its nets in the order of their declaration, what drives them, and its instances
 pub record Draft : Type 0 where
@@ -95,38 +93,10 @@ pub record Extends (old new : Draft) : Type 0 where
   pub nexts : Begins old.nexts new.nexts
   pub instances : Begins old.instances new.instances
 
--- the rank goes on over the nets that came
-pub record RanksOn (old new : Draft) (rank : ℕ → ℕ) : Type 0 where
-  pub after : ℕ → ℕ
-  pub agrees : (n : ℕ) → n < length old.nets → after n ≡ rank n
-  pub ranked : Ranked after new.assigns
-
--- the ranks go on over the nets and instances that came
-pub record OpensOn (modules : List ModuleText) (old new : Draft) (rank : ℕ → ℕ) (parts : ℕ → ℕ → ℕ) : Type 0 where
-  pub after : ℕ → ℕ
-  pub parts_after : ℕ → ℕ → ℕ
-  pub agrees : (n : ℕ) → n < length old.nets → after n ≡ rank n
-  pub order : IsOpenOrder modules new.assigns new.instances after parts_after
-
--- Every rank of the old assigns and of the parts of instances goes on, where the modules of all instances are among these and no net
--- of theirs depends on itself.
-unfoldable pub Opens : Draft → Draft → Type 0
-Opens old new = (modules : List ModuleText) → AreOrdered modules → Each (IsInstanceIn modules) new.instances
-    → (rank : ℕ → ℕ) (parts : ℕ → ℕ → ℕ) → IsOpenOrder modules old.assigns old.instances rank parts → OpensOn modules old new rank parts
-
--- the assigns that came drive new nets, and read what was declared before
-unfoldable pub GrowsUp : Draft → Draft → Type 0
-GrowsUp old new = (more : List Assign) × (new.assigns ≡ old.assigns ++ more)
-    × Each (λ (a : Assign). (length old.nets ≤ a.to.number) × Each (λ (o : Wire). o.number < a.to.number) (operands a.cell)) more
-
--- A piece of circuit was added: all that was there stays, no register got a driver, and every rank of the old assigns goes on,
--- that of the nets of instances included.
+-- A piece of circuit was added: all that was there stays, and no register got a driver.
 pub record Adds (old new : Draft) : Type 0 where
   pub extends : Extends old new
   pub nexts : new.nexts ≡ old.nexts
-  pub order : (rank : ℕ → ℕ) → Ranked rank old.assigns → RanksOn old new rank
-  pub opens : Opens old new
-  pub grows : GrowsUp old new
 
 -- every wire and output has its driver
 abbrev pub AreDriven : Draft → Type 0
@@ -135,11 +105,6 @@ AreDriven d = (n : ℕ) (net : ModuleNet) → slice_get d.nets n ≡ Some net �
 -- every register has a number below k
 abbrev pub RegistersBelow : List ModuleNet → ℕ → Type 0
 RegistersBelow nets k = (n : ℕ) (net : ModuleNet) → slice_get nets n ≡ Some net → net.role ≡ role.Register (reset_of net.role) → n < k
-
--- what was added is driven, and no register is among it
-pub record Closes (old new : Draft) : Type 0 where
-  pub driven : AreDriven old → AreDriven new
-  pub registers : (k : ℕ) → RegistersBelow old.nets k → RegistersBelow new.nets k
 
 -- fresh wires can be had any number of times
 abbrev pub CanFresh : Draft → Type 0
@@ -152,16 +117,6 @@ KeepsFresh name old new = IsNotNumbered name → CanFresh old → CanFresh new
 -- a name that isn't n and a number is as new as it was
 abbrev pub KeepsNew : Draft → Draft → Type 0
 KeepsNew old new = (name : List ℕ) → IsNotNumbered name → IsNew name (names_of old) → IsNew name (names_of new)
-
--- Fresh wires were made, each with its cell: they are driven, further ones can be had, a name that isn't n and a number
--- is as new as it was, and the ports are as they were.
-pub record Makes (old new : Draft) : Type 0 where
-  pub adds : Adds old new
-  pub instances : new.instances ≡ old.instances
-  pub closes : Closes old new
-  pub fresh : CanFresh old → CanFresh new
-  pub names : KeepsNew old new
-  pub ports : ports_among new.nets ≡ ports_among old.nets
 
 -- the reading fits the nets so far and meets every equation of their assigns
 abbrev pub SettlesDraft : Draft → (ℕ → ℕ) → Type 0

@@ -7,6 +7,7 @@ pub mod Draft
 pub mod Readings
 pub mod Depends
 pub mod Ready
+pub mod Making
 pub mod Late
 pub mod Pending
 pub mod Places

@@ -7,7 +7,8 @@ use Rattle.ap_net.specs.declared.net.Port.{Port}
 use Rattle.ap_net.specs.declared.net.Instance.{Instance}
 use Rattle.ap_net.specs.Names.{IsNew, IsNotNumbered, numbered}
 use Rattle.ap_net.specs.Modules.{ModuleText, ports_among, outputs, instance_of}
-use Rattle.ap_net.specs.Draft.{Draft, Adds, Closes, CanFresh, names_of, wire_count}
+use Rattle.ap_net.specs.Draft.{Draft, Adds, CanFresh, names_of, wire_count}
+use Rattle.ap_net.specs.Making.{Closes}
 
 -- the widths of the outputs among ports, and of the inputs
 abbrev pub output_widths : List Port → List ℕ

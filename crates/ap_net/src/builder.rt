@@ -11,7 +11,8 @@ ghost use Rattle.ap_net.specs.Finished.{IsFinished};
 ghost use Rattle.ap_net.specs.Readings.{Always, Carries};
 ghost use Rattle.ap_net.specs.Ready.{numbers};
 ghost use Rattle.ap_net.specs.Late.{IsLate, IsLateUnlessSource, StayLate, Reads, Drives, Joins};
-ghost use Rattle.ap_net.specs.Draft.{IsKept, Adds, Closes, Makes, CanFresh, KeepsFresh, KeepsNew, Means, blank, with_net, with_fresh, with_made, with_assign, with_next, with_instance, next_wire, names_of, is_plain, wire_count};
+ghost use Rattle.ap_net.specs.Draft.{IsKept, Adds, CanFresh, KeepsFresh, KeepsNew, Means, blank, with_net, with_fresh, with_made, with_assign, with_next, with_instance, next_wire, names_of, is_plain, wire_count};
+ghost use Rattle.ap_net.specs.Making.{Closes, Makes};
 
 use crate::NoMemory;
 use crate::cell::{Cell, Wire};

@@ -1,50 +1,48 @@
-use Rattle.std.proofs.Common.{◌≡◌, ◌≢◌, ℕ, zero, suc, ◌+◌, ◌<◌, ◌≤◌, ◌%◌, ◌^◌, List, [], ◌∷◌, ◌++◌, length, map, Bool, true, false, Some, None, refl, sym, ap, subst, ◌∙◌, arith, lit<}
+use Rattle.std.proofs.Common.{◌≡◌, ◌≢◌, ℕ, zero, suc, ◌+◌, ◌<◌, ◌≤◌, ◌%◌, ◌^◌, List, [], ◌∷◌, ◌++◌, length, map, Bool, true, false, Some, None, refl, sym, ap, subst, ◌∙◌, arith, inl}
 use Rattle.std.specs.Prelude.{slice_index, slice_get, ◌==◌, if◌then◌else◌, codes, option_map}
 use Rattle.std.specs.List.{AllByRecursion as Each}
+use Rattle.std.proofs.lemmas.Bool.{lt-ltb}
 use Rattle.std.proofs.lemmas.List.{length-map}
 use Rattle.std.proofs.lemmas.Option.{slice_get_within, slice_get-map}
-use Rattle.ap_net.specs.declared.net.Role.{Role}
-use Rattle.ap_net.specs.declared.net.Role.TheVariants as role
 use Rattle.ap_net.specs.declared.net.ModuleNet.{ModuleNet}
 use Rattle.ap_net.specs.declared.net.Next.{Next}
-use Rattle.ap_net.specs.Wiring.{IsSource, NextFits, reset_of}
-use Rattle.ap_net.specs.Draft.{Draft}
-use Rattle.ap_net.specs.Draft.{Opens, OpensOn, SettlesOpen}
-use Rattle.ap_net.specs.Modules.{ModuleText, IsModule, IsInstanceIn, Connects, IsNetlist, nets_of, module_named, next_placed, instance_placed, reset_value}
-use Rattle.ap_net.specs.Flat.{Flat, Solves, IsOpenNetlist, value_named, register_named, NamesAreFound, RegistersAreFound, NetlistsOpen, opened_over, plain_nets, top_net, base_of, spread, part_nexts, reset_in}
+use Rattle.ap_net.specs.declared.net.Port.{Port}
+use Rattle.ap_net.specs.Draft.{Draft, IsKept, SettlesOpen}
+use Rattle.ap_net.specs.Modules.{ModuleText, IsModule, IsInstanceIn, Connects, IsNetlist, nets_of, nets_among, module_named, next_placed, instance_placed, reset_value}
+use Rattle.ap_net.specs.Flat.{Flat, Solves, IsOpenNetlist, value_named, register_named, NamesAreFound, RegistersAreFound, NetlistsOpen, opened_over, plain_nets, top_net, base_of, part_nexts, reset_in}
 use Rattle.ap_net.specs.Finished.{IsFinished}
 use Rattle.ap_image.specs.declared.image.Image.{Image}
 use Rattle.ap_image.specs.declared.trace.Trace.{Trace}
-use Rattle.ap_image.specs.FitsShape.{ImageFitsShape, line_at}
-use Rattle.ap_net.specs.Outside.{shape_of}
-use Rattle.ap_net.specs.Registers.{held, RegistersFit}
-use Rattle.ap_net.specs.Runs.{NetState, Cycle, Runs, reset_state, bit}
+use Rattle.ap_image.specs.FitsShape.{line_at}
+use Rattle.ap_net.specs.Outside.{ports_of}
+use Rattle.ap_net.specs.Runs.{NetState, Cycle, Runs, reset_state}
 use Rattle.ap_net.specs.Rows.{shown_row}
-use Rattle.ap_net.specs.Sources.{Given, IsOrderedWith, AlwaysSolvable}
-use Rattle.ap_net.proofs.Laws.{IsNew-is_new, net-Adds, named_once, IsInstanceIn-placed, own_net_at, top_net_at, spread-own, held_all, held_fits, held_register, after_fit, reset_fit}
+use Rattle.ap_net.specs.Pending.{Among}
+use Rattle.ap_net.specs.Responding.{looked_in}
+use Rattle.ap_net.specs.Answering.{address_port, LooksByPorts, AlwaysRuns}
+use Rattle.ap_net.proofs.Laws.{IsNew-is_new, net-Adds, named_once, IsInstanceIn-placed, own_net_at, top_net_at, depend_on_all, ready_run}
+use Rattle.ap_unit.proofs.Placed.{place_is}
 use Rattle.ap_top.specs.declared.form.Form.{Form}
 use Rattle.ap_top.specs.Additions.{Operation}
 use Rattle.ap_top.specs.Machine.{State, start, cycle, over, fire, written, writes_of, sum_of}
 use Rattle.ap_top.specs.FormUnit.{IsFormUnit, unit_name}
 use Rattle.ap_top.specs.Processor.{outside_of, HoldsFlight, Keeps, IsDesign}
-use Rattle.ap_top.specs.Base.{base, base_nets, Nets, Equations, IsShown, four_nexts}
+use Rattle.ap_top.specs.Base.{base, base_nets, base_wires, Nets, Equations, IsShown, four_nexts}
 use Rattle.ap_top.proofs.FormUnit.{ports_are, Connects-placed}
-use Rattle.ap_top.proofs.TwoStage.{clocked_draft, base_rank, base_ranked, given, given_by, given_idata, given_mwait, given_other, given_looks, word_fits, bit_fits, map_both, get_front, HoldsState, fires, written_by, same}
+use Rattle.ap_top.proofs.TwoStage.{clocked_draft, base_by, clocked_ready, get_front, HoldsState, fires, written_by}
 
 -- the writes of the group, by its enable
 group_shown : (b : Bool) (sum : ℕ) → (if b then record { group = 0; index = None; value = sum } ∷ [] else []) ++ [] ≡ writes_of (if b then Some sum else None)
 group_shown true sum = refl
 group_shown false sum = refl
 
-no_input : (r : Role) (reset : ℕ) → r ≡ role.Input → r ≡ role.Register reset → ⊥
-no_input r reset a b = let never : role.Input ≡ role.Register reset = sym a ∙ b in cc
-
-six_five : (n k : ℕ) → n ≡ 6 → k ≡ 5 → n ≢ k
-six_five n k six five same = cc
+-- the word that is fetched comes by the second port
+abbrev word_port : ℕ
+word_port = 1
 
 -- the module of a shown circuit, beside any unit of these ports, does what the machine does
 module _ (form : Form) (operation : Operation) (number select : ℕ) (same_number : operation.number ≡ number) (unit : ModuleText) (is_unit : IsFormUnit operation form.width select unit) (d : Draft) (nets : Nets) (shown : IsShown form number select d nets) (m : ModuleText) (fin : IsFinished (clocked_draft form d nets) m) (kept : IsModule m)
-    (found : NamesAreFound) (registers_found : RegistersAreFound) (solvable : AlwaysSolvable) (opens : NetlistsOpen) where
+    (keeps_rules : IsKept (clocked_draft form d nets)) (found : NamesAreFound) (registers_found : RegistersAreFound) (opens : NetlistsOpen) where
   abbrev modules : List ModuleText
   modules = unit ∷ []
 
@@ -62,9 +60,6 @@ module _ (form : Form) (operation : Operation) (number select : ℕ) (same_numbe
       let connects : Connects unit shown.unit = Connects-placed form.width select shown.unit shown.is_placed unit is_unit.name (ports_are operation form.width select unit is_unit) in
       record { whole = unit; found = ap (module_named modules) connects.named ∙ unit_found; connects = connects }
 
-  drafted : Each (IsInstanceIn modules) d.instances
-  drafted = subst (Each (IsInstanceIn modules)) (sym shown.instances) (unit_within, tt)
-
   within : Each (IsInstanceIn modules) m.instances
   within = subst (Each (IsInstanceIn modules)) (sym (fin.instances ∙ ap (map (instance_placed fin.place)) shown.instances)) (IsInstanceIn-placed modules fin.place shown.unit unit_within, tt)
 
@@ -76,6 +71,34 @@ module _ (form : Form) (operation : Operation) (number select : ℕ) (same_numbe
 
   whole : IsOpenNetlist flat
   whole = opens (unit ∷ m ∷ []) netlist
+
+  -- the nets of the base, by their numbers
+  abbrev pc_net : ℕ
+  pc_net = (base_wires form).pc.number
+
+  abbrev register_net : ℕ
+  register_net = (base_wires form).register.number
+
+  abbrev valid_net : ℕ
+  valid_net = (base_wires form).valid.number
+
+  abbrev word_net : ℕ
+  word_net = (base_wires form).word.number
+
+  abbrev iaddr_net : ℕ
+  iaddr_net = (base_wires form).iaddr.number
+
+  abbrev idata_net : ℕ
+  idata_net = (base_wires form).idata.number
+
+  abbrev mwait_net : ℕ
+  mwait_net = (base_wires form).mwait.number
+
+  abbrev stall_net : ℕ
+  stall_net = (base_wires form).stall.number
+
+  abbrev kill_net : ℕ
+  kill_net = (base_wires form).kill.number
 
   -- a net of the base stands in the draft
   based : (n : ℕ) (net : ModuleNet) → slice_get (base_nets form) n ≡ Some net → slice_get d.nets n ≡ Some net
@@ -114,24 +137,24 @@ module _ (form : Form) (operation : Operation) (number select : ℕ) (same_numbe
   flat_nexts = ap (λ (l : List Next). l ++ unit_nexts) fin.nexts
 
   -- the registers as a valuation gives them, before the edge and after it
-  before_edge : (v : List ℕ) → map (λ (x : Next). slice_index v x.register.number) flat.nexts ≡ read v 0 ∷ read v 1 ∷ read v 2 ∷ read v 3 ∷ map (λ (x : Next). slice_index v x.register.number) unit_nexts
+  before_edge : (v : List ℕ) → map (λ (x : Next). slice_index v x.register.number) flat.nexts ≡ read v pc_net ∷ read v register_net ∷ read v valid_net ∷ read v word_net ∷ map (λ (x : Next). slice_index v x.register.number) unit_nexts
   before_edge v = ap (map (λ (x : Next). slice_index v x.register.number)) flat_nexts
 
-  after_edge : (v : List ℕ) → map (λ (x : Next). slice_index v x.from.number) flat.nexts ≡ read v nets.next_address.number ∷ read v nets.written.number ∷ read v nets.one.number ∷ read v 5 ∷ map (λ (x : Next). slice_index v x.from.number) unit_nexts
+  after_edge : (v : List ℕ) → map (λ (x : Next). slice_index v x.from.number) flat.nexts ≡ read v nets.next_address.number ∷ read v nets.written.number ∷ read v nets.one.number ∷ read v idata_net ∷ map (λ (x : Next). slice_index v x.from.number) unit_nexts
   after_edge v = ap (map (λ (x : Next). slice_index v x.from.number)) flat_nexts
 
   -- the row that a solution shows
-  shows : (v : List ℕ) → Solves flat v → (s : State) → HoldsState (read v 0 ∷ read v 1 ∷ read v 2 ∷ read v 3 ∷ []) s
+  shows : (v : List ℕ) → Solves flat v → (s : State) → HoldsState (read v pc_net ∷ read v register_net ∷ read v valid_net ∷ read v word_net ∷ []) s
       → (shown_row (outside_of form) flat v ≡ record { stall = false; kill = false; writes = writes_of (fire operation form s.register s.stage) })
       × ((if read v nets.enable.number == 1 then Some (read v nets.sum.number) else None) ≡ fire operation form s.register s.stage)
   shows v solves s h =
       let e = solved v solves in
-      let stall : value_named flat.nets v (codes "stall") ≡ 0 = named v solves.long 7 _ (based 7 _ refl) ∙ (e.0).stall in
-      let kill : value_named flat.nets v (codes "kill") ≡ 0 = named v solves.long 8 _ (based 8 _ refl) ∙ (e.0).kill in
+      let stall : value_named flat.nets v (codes "stall") ≡ 0 = named v solves.long stall_net _ (based stall_net _ refl) ∙ (e.0).stall in
+      let kill : value_named flat.nets v (codes "kill") ≡ 0 = named v solves.long kill_net _ (based kill_net _ refl) ∙ (e.0).kill in
       let enable : value_named flat.nets v (codes "w_R_e") ≡ read v nets.enable.number = named v solves.long shown.write_enable _ shown.enable_there ∙ e.1 in
       let value : value_named flat.nets v (codes "w_R_v") ≡ read v nets.sum.number = named v solves.long shown.write_value _ shown.value_there ∙ e.2 in
       let fired : (if read v nets.enable.number == 1 then Some (read v nets.sum.number) else None) ≡ fire operation form s.register s.stage =
-      fires operation form (read v 2) (read v 3) s.register (read v nets.enable.number) (read v nets.sum.number) s.stage h.2 (e.0).enable ((e.0).sum ∙ ap (sum_of operation form) h.1) in (
+      fires operation form (read v valid_net) (read v word_net) s.register (read v nets.enable.number) (read v nets.sum.number) s.stage h.2 (e.0).enable ((e.0).sum ∙ ap (sum_of operation form) h.1) in (
         (λ i. record { stall = stall i == 1; kill = kill i == 1; writes = (if enable i == 1 then record { group = 0; index = None; value = value i } ∷ [] else []) ++ [] })
             ∙ (λ i. record { stall = false; kill = false; writes = (group_shown (read v nets.enable.number == 1) (read v nets.sum.number) ∙ ap writes_of fired) i }),
         fired,
@@ -141,20 +164,20 @@ module _ (form : Form) (operation : Operation) (number select : ℕ) (same_numbe
   reset_holds : (image : Image) → HoldsState (reset_state flat image).registers (start form)
   reset_holds image =
       subst (λ (nexts : List Next). HoldsState (map (λ (x : Next). reset_in flat x.register.number) nexts) (start form)) (sym flat_nexts)
-      (ap reset_value (whole_net 0 _ (based 0 _ refl)), ap reset_value (whole_net 1 _ (based 1 _ refl)), ap reset_value (whole_net 2 _ (based 2 _ refl)))
+      (ap reset_value (whole_net pc_net _ (based pc_net _ refl)), ap reset_value (whole_net register_net _ (based register_net _ refl)), ap reset_value (whole_net valid_net _ (based valid_net _ refl)))
 
   -- one cycle goes from what the machine holds to what it holds after a cycle, and shows the row
   steps : (image : Image) (trace : Trace) (j : ℕ) (old new : NetState) (v : List ℕ) (s : State) → Cycle (outside_of form) flat image.code (line_at trace [] j) old v new → HoldsState old.registers s
       → HoldsState new.registers (cycle operation form image s) × (shown_row (outside_of form) flat v ≡ record { stall = false; kill = false; writes = writes_of (fire operation form s.register s.stage) })
   steps image trace j old new v s c h =
       let e = (solved v c.solves).0 in
-      let held : HoldsState (read v 0 ∷ read v 1 ∷ read v 2 ∷ read v 3 ∷ []) s = subst (λ r. HoldsState r s) (sym c.registers ∙ before_edge v) h in
+      let held : HoldsState (read v pc_net ∷ read v register_net ∷ read v valid_net ∷ read v word_net ∷ []) s = subst (λ r. HoldsState r s) (sym c.registers ∙ before_edge v) h in
       let row = shows v c.solves s held in
-      let address : value_named flat.nets v (codes "iaddr") ≡ s.pc = named v (c.solves).long 4 _ (based 4 _ refl) ∙ e.iaddr ∙ held.0 in
-      let fetched : read v 5 ≡ slice_index image.code s.pc = sym (named v (c.solves).long 5 _ (based 5 _ refl)) ∙ c.fetch ∙ ap (slice_index image.code) address in (
+      let address : value_named flat.nets v (codes "iaddr") ≡ s.pc = named v (c.solves).long iaddr_net _ (based iaddr_net _ refl) ∙ e.iaddr ∙ held.0 in
+      let fetched : read v idata_net ≡ slice_index image.code s.pc = sym (named v (c.solves).long idata_net _ (based idata_net _ refl)) ∙ c.fetch ∙ ap (slice_index image.code) address in (
         subst (λ r. HoldsState r (cycle operation form image s)) (sym (c.after ∙ after_edge v)) (
           e.next_address ∙ ap (λ n. (n + 1) % 2 ^ form.address) held.0,
-          e.written ∙ written_by (read v nets.enable.number == 1) (read v nets.sum.number) (read v 1) ∙ (λ i. written (held.1 i) (row.1 i)),
+          e.written ∙ written_by (read v nets.enable.number == 1) (read v nets.sum.number) (read v register_net) ∙ (λ i. written (held.1 i) (row.1 i)),
           (e.one, fetched),
         ),
         row.0,
@@ -193,122 +216,44 @@ module _ (form : Form) (operation : Operation) (number select : ℕ) (same_numbe
     stage = subst (λ n. HoldsFlight n (register_named flat registers (codes "x_1")) s.stage) (sym (register_at registers count 2 _ _ refl refl)) (subst (λ n. HoldsFlight (slice_index registers 2) n s.stage) (sym (register_at registers count 3 _ _ refl refl)) h.2);
   }
 
-  -- the order goes on over the circuit and the unit's part
-  rank_on : OpensOn modules (base form) d base_rank (λ k n. 0)
-  unfolding Opens
-  rank_on = shown.adds.opens modules ((is_unit.unit).ordered, tt) drafted base_rank (λ k n. 0) (record { ranked = base_ranked form; each = λ k i x at there. cc })
+  -- the ports of top are those of the outside
+  its_ports : m.ports ≡ ports_of (outside_of form)
+  its_ports = fin.ports ∙ shown.ports
 
-  abbrev rank : ℕ → ℕ
-  rank n = spread modules m (λ k. rank_on.after (fin.back k)) rank_on.parts_after n
+  port_at : (p : ℕ) → slice_get (nets_of m) p ≡ slice_get (nets_among (ports_of (outside_of form)) m.wires m.regs) p
+  port_at p = ap (λ (ports : List Port). slice_get (nets_among ports m.wires m.regs) p) its_ports
 
-  rank_at : (n : ℕ) → n < length (nets_of m) → rank n ≡ rank_on.after (fin.back n)
-  rank_at n lt = spread-own modules m (λ k. rank_on.after (fin.back k)) rank_on.parts_after n lt
+  at_iaddr : fin.place iaddr_net ≡ address_port
+  at_iaddr = place_is (clocked_draft form d nets) m fin kept iaddr_net address_port _ _ (based iaddr_net _ refl) (port_at address_port) refl
 
-  -- the inputs of top aren't registers
-  abbrev IsInputAt : ℕ → Type 0
-  IsInputAt n = (net : ModuleNet) × (slice_get (plain_nets flat.nets) n ≡ Some net) × (net.role ≡ role.Input)
+  at_idata : fin.place idata_net ≡ word_port
+  at_idata = place_is (clocked_draft form d nets) m fin kept idata_net word_port _ _ (based idata_net _ refl) (port_at word_port) refl
 
-  idata_at : IsInputAt (fin.place 5)
-  idata_at = (_, whole_net 5 _ (based 5 _ refl), refl)
+  back_idata : fin.back word_port ≡ idata_net
+  back_idata = ap fin.back (sym at_idata) ∙ fin.returns idata_net (slice_get_within d.nets idata_net _ (based idata_net _ refl))
 
-  mwait_at : IsInputAt (fin.place 6)
-  mwait_at = (_, whole_net 6 _ (based 6 _ refl), refl)
+  -- so the outside looks at no other net than was said
+  looked : looked_in m fin.place fin.back (base_by form).looks word_port ≡ address_port ∷ []
+  looked = rw (lt-ltb word_port (length (nets_of m)) (slice_get_within (nets_of m) word_port _ (port_at word_port)), back_idata) (ap (λ n. n ∷ []) at_iaddr)
 
-  no_register : (n : ℕ) → IsInputAt n → (x : Next) → NextFits (plain_nets flat.nets) x → x.register.number ≢ n
-  no_register n input x fits e = no_input input.0.role (reset_of input.0.role) input.2 (fits.clocked input.0 (ap (slice_get (plain_nets flat.nets)) e ∙ input.1))
+  looks : LooksByPorts (outside_of form) (looked_in m fin.place fin.back (base_by form).looks)
+  looks zero ports at = let e : [] ≡ ports = cc in subst (Each (Among (looked_in m fin.place fin.back (base_by form).looks 0))) e tt
+  looks (suc zero) ports at =
+      let e : address_port ∷ [] ≡ ports = cc in
+      subst (Each (Among (looked_in m fin.place fin.back (base_by form).looks word_port))) e (subst (λ l. Each (Among l) (address_port ∷ [])) (sym looked) (inl refl, tt))
+  looks (suc (suc zero)) ports at = let e : [] ≡ ports = cc in subst (Each (Among (looked_in m fin.place fin.back (base_by form).looks 2))) e tt
+  looks (suc (suc (suc n))) ports at = cc
 
-  -- nor are they one
-  apart : fin.place 6 ≢ fin.place 5
-  apart e = six_five (fin.back (fin.place 6)) (fin.back (fin.place 5)) (fin.returns 6 (slice_get_within d.nets 6 _ (based 6 _ refl))) (fin.returns 5 (slice_get_within d.nets 5 _ (based 5 _ refl))) (ap fin.back e)
-
-  -- what the outside and the registers give in a cycle
-  sources : (code : List ℕ) (wait : Bool) (r : List ℕ) → Each (λ word. word < 2 ^ form.word) code → RegistersFit flat.nexts r → Given (plain_nets flat.nets)
-  sources code wait r fits f = record {
-    number = λ n rd. given (fin.place 5) (slice_index code (rd (fin.place 4))) (fin.place 6) (bit wait) (held flat.nexts r) n;
-    fits = λ n net rd at is. given_by (λ x. x < 2 ^ net.width) (fin.place 5) (slice_index code (rd (fin.place 4))) (fin.place 6) (bit wait) (held flat.nexts r) n
-        (λ here. subst (λ (x : ModuleNet). slice_index code (rd (fin.place 4)) < 2 ^ x.width) (same (sym (whole_net 5 _ (based 5 _ refl)) ∙ ap (slice_get (plain_nets flat.nets)) (sym here) ∙ at)) (word_fits code form.word (rd (fin.place 4)) fits))
-        (λ other here. subst (λ (x : ModuleNet). bit wait < 2 ^ x.width) (same (sym (whole_net 6 _ (based 6 _ refl)) ∙ ap (slice_get (plain_nets flat.nets)) (sym here) ∙ at)) (bit_fits wait))
-        (λ other another. held_fits (plain_nets flat.nets) flat.nexts r whole.registers f n net at);
-  }
-
-  sources_ordered : (code : List ℕ) (wait : Bool) (r : List ℕ) (fits : Each (λ word. word < 2 ^ form.word) code) (f : RegistersFit flat.nexts r) → IsOrderedWith flat (sources code wait r fits f)
-  unfolding sources
-  sources_ordered code wait r fits f = record {
-    rank = rank;
-    ranked = fin.open_orders modules rank_on.after rank_on.parts_after (is_unit.kept, tt) within (record { ranked = (rank_on.order).ranked; each = (rank_on.order).each });
-    looks = λ n net p q at is agree. given_looks (fin.place 5) (slice_index code (p (fin.place 4))) (slice_index code (q (fin.place 4))) (fin.place 6) (bit wait) (held flat.nexts r) n (λ here.
-        let four : 4 < length d.nets = slice_get_within d.nets 4 _ (based 4 _ refl) in
-        let five : 5 < length d.nets = slice_get_within d.nets 5 _ (based 5 _ refl) in
-        let low : rank (fin.place 4) ≡ 1 = rank_at (fin.place 4) (slice_get_within (nets_of m) (fin.place 4) _ (placed_net 4 _ (based 4 _ refl))) ∙ ap rank_on.after (fin.returns 4 four) ∙ rank_on.agrees 4 (lit< tt) in
-        let high : rank n ≡ 2 =
-        ap rank here ∙ rank_at (fin.place 5) (slice_get_within (nets_of m) (fin.place 5) _ (placed_net 5 _ (based 5 _ refl))) ∙ ap rank_on.after (fin.returns 5 five) ∙ rank_on.agrees 5 (lit< tt) in
-        ap (slice_index code) (agree (fin.place 4) (slice_get_within (plain_nets flat.nets) (fin.place 4) _ (whole_net 4 _ (based 4 _ refl))) (omega arith)));
-  }
-
-  -- one more cycle can be made
-  one_more : (image : Image) (trace : Trace) (j : ℕ) (old : NetState) → ImageFitsShape image (shape_of (outside_of form)) → RegistersFit flat.nexts old.registers
-      → (v : List ℕ) × (new : NetState) × Cycle (outside_of form) flat image.code (line_at trace [] j) old v new × RegistersFit flat.nexts new.registers
-  unfolding sources
-  one_more image trace j old fits f =
-      let wait : Bool = (line_at trace [] j).wait in
-      let r : List ℕ = old.registers in
-      let solution = solvable flat whole.flat (sources image.code wait r (fits.code).each f) (sources_ordered image.code wait r (fits.code).each f) in
-      let v : List ℕ = solution.0 in
-      let solves : Solves flat v = solution.1 in
-      let word : ℕ = slice_index image.code (read v 4) in
-      let fetched : read v 5 ≡ word = solution.2 (fin.place 5) _ (whole_net 5 _ (based 5 _ refl)) tt ∙ given_idata (fin.place 5) word (fin.place 6) (bit wait) (held flat.nexts r) in
-      let waited : read v 6 ≡ bit wait = solution.2 (fin.place 6) _ (whole_net 6 _ (based 6 _ refl)) tt ∙ given_mwait (fin.place 5) word (fin.place 6) (bit wait) (held flat.nexts r) apart in
-      let kept_registers : map (λ (x : Next). slice_index v x.register.number) flat.nexts ≡ map (λ (x : Next). held flat.nexts r x.register.number) flat.nexts =
-      map_both (NextFits (plain_nets flat.nets)) (λ (x : Next). (net : ModuleNet) × (slice_get (plain_nets flat.nets) x.register.number ≡ Some net) × IsSource net.role)
-      (λ (x : Next). slice_index v x.register.number) (λ (x : Next). held flat.nexts r x.register.number) flat.nexts whole.registers (held_register (plain_nets flat.nets) flat.nexts whole.registers)
-      (λ x fit source. solution.2 x.register.number source.0 source.1 source.2
-      ∙ given_other (fin.place 5) word (fin.place 6) (bit wait) (held flat.nexts r) x.register.number (no_register (fin.place 5) idata_at x fit) (no_register (fin.place 6) mwait_at x fit)) in (
-        v,
-        record { registers = map (λ (x : Next). slice_index v x.from.number) flat.nexts; mems = [] },
-        record {
-          solves = solves;
-          registers = kept_registers ∙ held_all flat.nexts r (whole.clocked).once f;
-          fetch = named v solves.long 5 _ (based 5 _ refl) ∙ fetched ∙ ap (slice_index image.code) (sym (named v solves.long 4 _ (based 4 _ refl)));
-          wait = named v solves.long 6 _ (based 6 _ refl) ∙ waited;
-          inputs = tt;
-          reads = tt;
-          after = refl;
-          writes = refl;
-        },
-        after_fit flat v whole solves,
-      )
-
-  -- the states of a run, one after another
-  made : (image : Image) (trace : Trace) → ImageFitsShape image (shape_of (outside_of form)) → ℕ → (state : NetState) × RegistersFit flat.nexts state.registers
-  made image trace fits zero = (reset_state flat image, reset_fit flat whole)
-  made image trace fits (suc j) =
-      let before = made image trace fits j in
-      let more = one_more image trace j before.0 fits before.1 in
-      (more.1, more.3)
-
-  exists : (image : Image) (trace : Trace) (c : ℕ) → ImageFitsShape image (shape_of (outside_of form))
-      → (states : ℕ → NetState) × (valuations : ℕ → List ℕ) × Runs (outside_of form) flat image trace c states valuations
-  unfolding made
-  exists image trace c fits =
-      let states : ℕ → NetState = λ j. (made image trace fits j).0 in
-      let valuations : ℕ → List ℕ = λ j. (one_more image trace j (made image trace fits j).0 fits (made image trace fits j).1).0 in (
-        states,
-        valuations,
-        record {
-          starts = refl;
-          goes = λ j lt.
-              let next : suc j ≡ j + 1 = omega arith in
-              subst (λ n. Cycle (outside_of form) flat image.code (line_at trace [] j) (states j) (valuations j) (states n)) next (one_more image trace j (made image trace fits j).0 fits (made image trace fits j).1).2;
-        },
-      )
+  exists : AlwaysRuns (outside_of form) flat
+  exists = ready_run (base_by form) (clocked_draft form d nets) keeps_rules (clocked_ready form number select d nets shown) m modules fin netlist ((is_unit.unit).ordered, tt) (depend_on_all unit, tt) (outside_of form) its_ports looks
 
   pub designed : IsNetlist (unit ∷ m ∷ []) × IsDesign operation form (unit ∷ m ∷ [])
   designed = (
     netlist,
     record {
-      ports = fin.ports ∙ shown.ports;
+      ports = its_ports;
       behaves = record {
-        exists = λ image trace c fits trace_fits. exists image trace c fits;
+        exists = exists;
         rows = λ image trace c states valuations runs j lt. (steps image trace j (states j) (states (j + 1)) (valuations j) (over operation form image trace j) (runs.goes j lt) (holds image trace c states valuations runs j (omega arith))).1;
         keeps = λ image trace c states valuations runs j le. keeps (states j).registers (long image trace c states valuations runs j le) (over operation form image trace j) (holds image trace c states valuations runs j le) (states j).mems;
       };

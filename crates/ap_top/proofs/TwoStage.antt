@@ -1,21 +1,18 @@
-use Rattle.std.proofs.Common.{◌≡◌, ◌≢◌, ℕ, zero, suc, ◌<◌, ◌^◌, List, [], ◌∷◌, ◌++◌, map, Bool, true, false, Option, Some, None, refl, ap, subst, ◌∙◌, arith, lit<}
-use Rattle.std.specs.List.{AllByRecursion as Each}
+use Rattle.std.proofs.Common.{◌≡◌, ◌≢◌, ℕ, zero, suc, ◌<◌, List, [], ◌∷◌, ◌++◌, append-nil, Bool, true, false, Option, Some, None, refl, sym, ap, subst, ◌∙◌, arith}
 use Rattle.std.specs.Prelude.{slice_index, slice_get, ◌==◌, if◌then◌else◌, bit_and, codes, IsTrue}
-use Rattle.std.proofs.lemmas.Nat.{pow_pos}
-use Rattle.std.proofs.lemmas.Bool.Decides.{Decides-eqb}
 use Rattle.ap_net.specs.declared.net.Role.TheVariants as role
 use Rattle.ap_net.specs.declared.net.ModuleNet.{ModuleNet}
 use Rattle.ap_net.specs.declared.net.Next.{Next}
-use Rattle.ap_net.specs.Wiring.{IsSource, reset_of, Ranked, Unclocked, IsDriven}
+use Rattle.ap_net.specs.Wiring.{IsSource, reset_of, Unclocked, IsDriven}
 use Rattle.ap_net.specs.Names.{numbered}
-use Rattle.ap_net.specs.Draft.{Draft, AreDriven, RegistersBelow, CanFresh}
-use Rattle.ap_net.proofs.Laws.{IsNotNumbered-other, is_other_letter}
-use Rattle.ap_net.specs.Runs.{bit}
+use Rattle.ap_net.specs.Draft.{Draft, Extends, RegistersBelow, CanFresh}
+use Rattle.ap_net.specs.Ready.{Dependence, Feeds, assign, Ready, AreReady, AllReady}
+use Rattle.ap_net.proofs.Laws.{IsNotNumbered-other, is_other_letter, Extends-refl, Extends-trans, Ready-source, Ready-Extends, ReadyAfter-Feeds, ready_are_driven}
 use Rattle.ap_top.specs.declared.form.Form.{Form}
 use Rattle.ap_top.specs.Additions.{Operation}
 use Rattle.ap_top.specs.Machine.{State, fire, written, sum_of}
 use Rattle.ap_top.specs.Processor.{HoldsFlight}
-use Rattle.ap_top.specs.Base.{base, base_nets, base_assigns, Nets, IsShown, four_nexts}
+use Rattle.ap_top.specs.Base.{base, base_nets, base_wires, Nets, IsShown, four_nexts}
 
 -- the draft with its registers driven
 abbrev pub clocked_draft : Form → Draft → Nets → Draft
@@ -24,21 +21,44 @@ clocked_draft form d nets = record d { nexts = four_nexts form nets }
 pub same : {X : Type 0} {x y : X} → Some x ≡ Some y → x ≡ y
 same e = cc
 
-source : (x net : ModuleNet) → Some x ≡ Some net → IsSource x.role → (IsSource net.role → ⊥) → ⊥
-source x net at is free = free (subst (λ (y : ModuleNet). IsSource y.role) (same at) is)
+-- for idata the outside looks at iaddr
+abbrev pub base_by : Form → Dependence
+base_by form = record { looks = λ n. if n == (base_wires form).idata.number then (base_wires form).iaddr.number ∷ [] else []; needs = λ name p q. true }
 
--- every port of the base is driven
-base_driven : (form : Form) → AreDriven (base form)
-base_driven form zero net at free none unjoined = source _ net at tt free
-base_driven form (suc zero) net at free none unjoined = source _ net at tt free
-base_driven form (suc (suc zero)) net at free none unjoined = source _ net at tt free
-base_driven form (suc (suc (suc zero))) net at free none unjoined = source _ net at tt free
-base_driven form (suc (suc (suc (suc zero)))) net at free none unjoined = none.0 refl
-base_driven form (suc (suc (suc (suc (suc zero))))) net at free none unjoined = source _ net at tt free
-base_driven form (suc (suc (suc (suc (suc (suc zero)))))) net at free none unjoined = source _ net at tt free
-base_driven form (suc (suc (suc (suc (suc (suc (suc zero))))))) net at free none unjoined = none.1.0 refl
-base_driven form (suc (suc (suc (suc (suc (suc (suc (suc zero)))))))) net at free none unjoined = none.1.1.0 refl
-base_driven form (suc (suc (suc (suc (suc (suc (suc (suc (suc n))))))))) net at free none unjoined = cc
+-- every net of the base is ready: the registers, the inputs, and the outputs that it drives
+register_ready : (form : Form) (n : ℕ) (net : ModuleNet) → slice_get (base_nets form) n ≡ Some net → IsSource net.role → AreReady (base_by form) (base form) ((base_by form).looks n) → Ready (base_by form) (base form) n
+register_ready form n net at is each = Ready-source (base_by form) (base form) n net at is each
+
+output_ready : (form : Form) (n : ℕ) (from : List ℕ) → Feeds (base_by form) (base form) n from → AreReady (base_by form) (base form) from → Ready (base_by form) (base form) n
+output_ready form n from feeds each = ReadyAfter-Feeds (base_by form) (base form) n from feeds (base form) (Extends-refl (base form)) each
+
+iaddr_ready : (form : Form) → Ready (base_by form) (base form) 4
+iaddr_ready form = output_ready form 4 (0 ∷ []) (assign 0 _ refl refl refl) (register_ready form 0 _ refl tt tt, tt)
+
+base_ready : (form : Form) (n : ℕ) → n < 9 → Ready (base_by form) (base form) n
+base_ready form zero lt = register_ready form 0 _ refl tt tt
+base_ready form (suc zero) lt = register_ready form 1 _ refl tt tt
+base_ready form (suc (suc zero)) lt = register_ready form 2 _ refl tt tt
+base_ready form (suc (suc (suc zero))) lt = register_ready form 3 _ refl tt tt
+base_ready form (suc (suc (suc (suc zero)))) lt = iaddr_ready form
+base_ready form (suc (suc (suc (suc (suc zero))))) lt = register_ready form 5 _ refl tt (iaddr_ready form, tt)
+base_ready form (suc (suc (suc (suc (suc (suc zero)))))) lt = register_ready form 6 _ refl tt tt
+base_ready form (suc (suc (suc (suc (suc (suc (suc zero))))))) lt = output_ready form 7 [] (assign 1 _ refl refl refl) tt
+base_ready form (suc (suc (suc (suc (suc (suc (suc (suc zero)))))))) lt = output_ready form 8 [] (assign 2 _ refl refl refl) tt
+base_ready form (suc (suc (suc (suc (suc (suc (suc (suc (suc n))))))))) lt = absurd (omega arith)
+
+-- and every net of the processor
+pub clocked_ready : (form : Form) (number select : ℕ) (d : Draft) (nets : Nets) → IsShown form number select d nets → AllReady (base_by form) (clocked_draft form d nets)
+clocked_ready form number select d nets s n lt =
+    let new : Draft = clocked_draft form d nets in
+    let goes_on : Extends d new = record {
+      name = refl;
+      nets = ([], sym (append-nil d.nets));
+      assigns = ([], sym (append-nil d.assigns));
+      nexts = (four_nexts form nets, ap (λ l. l ++ four_nexts form nets) (sym s.adds.nexts));
+      instances = ([], sym (append-nil d.instances));
+    } in
+    s.closes.ready (base_by form) new goes_on (λ i first. Ready-Extends (base_by form) (base form) new i (Extends-trans (base form) d new s.adds.extends goes_on) (base_ready form i first)) n lt
 
 port : (x net : ModuleNet) → Some x ≡ Some net → (x.role ≡ role.Register (reset_of net.role) → ⊥) → net.role ≡ role.Register (reset_of net.role) → ⊥
 port x net at never is = never (ap (λ (y : ModuleNet). y.role) (same at) ∙ is)
@@ -67,71 +87,15 @@ four_clocked form nets (suc (suc (suc (suc n)))) lt none = absurd (omega arith)
 -- every net of the processor has its driver
 pub clocked-IsDriven : (form : Form) (number select : ℕ) (d : Draft) (nets : Nets) → IsShown form number select d nets → IsDriven d.nets d.assigns (four_nexts form nets) d.instances
 clocked-IsDriven form number select d nets s = record {
-  driven = s.closes.driven (base_driven form);
+  driven = ready_are_driven (base_by form) (clocked_draft form d nets) (clocked_ready form number select d nets s);
   clocked = λ n net at is none. four_clocked form nets n (s.closes.registers 4 (base_registers form) n net at is) none;
 }
-
--- before the base's circuits: the pc comes first, then the address that is fetched, then the word that answers
-abbrev pub base_rank : ℕ → ℕ
-base_rank n = slice_index (0 ∷ 0 ∷ 0 ∷ 0 ∷ 1 ∷ 2 ∷ 0 ∷ 1 ∷ 1 ∷ []) n
-
-pub base_ranked : (form : Form) → Ranked base_rank (base_assigns form)
-base_ranked form = ((lit< tt, tt), (tt, (tt, tt)))
-
--- what a source is given: the fetched word, whether the outside waits, or what the register holds
-abbrev pub given : ℕ → ℕ → ℕ → ℕ → (ℕ → ℕ) → ℕ → ℕ
-given idata word mwait wait registers n = if n == idata then word else if n == mwait then wait else registers n
-
-other_than : (a b : ℕ) → (a == b) ≡ false → a ≢ b
-other_than a b differs e = let yes : (a == b) ≡ true = (Decides-eqb a b).1 e in cc
-
--- what holds of the three holds of what is given
-pub given_by : (P : ℕ → Type 0) (idata word mwait wait : ℕ) (registers : ℕ → ℕ) (n : ℕ) → (n ≡ idata → P word) → (n ≢ idata → n ≡ mwait → P wait) → (n ≢ idata → n ≢ mwait → P (registers n))
-    → P (given idata word mwait wait registers n)
-given_by P idata word mwait wait registers n first second third = go (n == idata) (n == mwait) refl refl
-  where
-    go : (a b : Bool) → (n == idata) ≡ a → (n == mwait) ≡ b → P (if a then word else if b then wait else registers n)
-    go true b e f = first ((Decides-eqb n idata).0 e)
-    go false true e f = second (other_than n idata e) ((Decides-eqb n mwait).0 f)
-    go false false e f = third (other_than n idata e) (other_than n mwait f)
-
-pub given_idata : (idata word mwait wait : ℕ) (registers : ℕ → ℕ) → given idata word mwait wait registers idata ≡ word
-given_idata idata word mwait wait registers = given_by (λ x. x ≡ word) idata word mwait wait registers idata (λ e. refl) (λ other e. absurd (other refl)) (λ other e. absurd (other refl))
-
-pub given_mwait : (idata word mwait wait : ℕ) (registers : ℕ → ℕ) → mwait ≢ idata → given idata word mwait wait registers mwait ≡ wait
-given_mwait idata word mwait wait registers apart = given_by (λ x. x ≡ wait) idata word mwait wait registers mwait (λ e. absurd (apart e)) (λ other e. refl) (λ other another. absurd (another refl))
-
-pub given_other : (idata word mwait wait : ℕ) (registers : ℕ → ℕ) (n : ℕ) → n ≢ idata → n ≢ mwait → given idata word mwait wait registers n ≡ registers n
-given_other idata word mwait wait registers n one two = given_by (λ x. x ≡ registers n) idata word mwait wait registers n (λ e. absurd (one e)) (λ other e. absurd (two e)) (λ other another. refl)
-
--- only the fetched word looks at the address
-pub given_looks : (idata a b mwait wait : ℕ) (registers : ℕ → ℕ) (n : ℕ) → (n ≡ idata → a ≡ b) → given idata a mwait wait registers n ≡ given idata b mwait wait registers n
-given_looks idata a b mwait wait registers n same_word = go (n == idata) refl
-  where
-    go : (c : Bool) → (n == idata) ≡ c → (if c then a else if n == mwait then wait else registers n) ≡ (if c then b else if n == mwait then wait else registers n)
-    go true e = same_word ((Decides-eqb n idata).0 e)
-    go false e = refl
-
--- two functions that agree on a list's elements give the same list
-pub map_both : {X Y : Type 0} (P Q : X → Type 0) (f g : X → Y) (xs : List X) → Each P xs → Each Q xs → ((x : X) → P x → Q x → f x ≡ g x) → map f xs ≡ map g xs
-map_both P Q f g [] p q e = refl
-map_both P Q f g (x ∷ xs) p q e = λ j. e x p.0 q.0 j ∷ map_both P Q f g xs p.1 q.1 e j
 
 -- what stands in the front of a list
 pub get_front : {X : Type 0} (xs ys : List X) (i : ℕ) (x : X) → slice_get xs i ≡ Some x → slice_get (xs ++ ys) i ≡ Some x
 get_front [] ys i x h = cc
 get_front (y ∷ xs) ys zero x h = h
 get_front (y ∷ xs) ys (suc i) x h = get_front xs ys i x h
-
-pub bit_fits : (b : Bool) → bit b < 2 ^ 1
-bit_fits true = lit< tt
-bit_fits false = lit< tt
-
--- words that fit, and 0 beyond them
-pub word_fits : (words : List ℕ) (width n : ℕ) → Each (λ word. word < 2 ^ width) words → slice_index words n < 2 ^ width
-word_fits [] width n h = pow_pos width
-word_fits (word ∷ words) width zero h = h.0
-word_fits (word ∷ words) width (suc n) h = word_fits words width n h.1
 
 -- the valid bit and the word by their places
 abbrev pub HoldsState : List ℕ → State → Type 0

@@ -1,5 +1,5 @@
--- How the first form's processor is built: the nets that are declared before any circuit, under their numbers, and the
--- equations of the circuit over them.
+-- How the first form's processor is built: the nets that are declared before any circuit, by their names, and the equations of the
+-- circuit over them.
 use Rattle.std.specs.Prelude.{◌≡◌, ℕ, ◌+◌, ◌%◌, ◌^◌, ◌==◌, if◌then◌else◌, List, [], ◌∷◌, map, codes, slice_get, Some, bit_and}
 use Rattle.ap_net.specs.declared.cell.Wire.{Wire}
 use Rattle.ap_net.specs.declared.cell.Cell.TheVariants as cell
@@ -8,7 +8,8 @@ use Rattle.ap_net.specs.declared.net.ModuleNet.{ModuleNet}
 use Rattle.ap_net.specs.declared.net.Assign.{Assign}
 use Rattle.ap_net.specs.Cells.{IsNet}
 use Rattle.ap_net.specs.declared.net.Instance.{Instance}
-use Rattle.ap_net.specs.Draft.{Draft, Adds, Closes, SettlesOpen}
+use Rattle.ap_net.specs.Draft.{Draft, Adds, SettlesOpen}
+use Rattle.ap_net.specs.Making.{Closes}
 use Rattle.ap_net.specs.Placing.{Places}
 use Rattle.ap_net.specs.Modules.{ModuleText, IsNetlist, module_named, ports_among}
 use Rattle.ap_net.specs.Outside.{ports_of}
@@ -25,6 +26,32 @@ use Rattle.ap_top.specs.declared.form.Form.{Form}
 -- a declared net
 abbrev pub wire : ℕ → ℕ → Wire
 wire number width = record { number = number; width = width }
+
+-- the nets that are declared before any circuit: four registers, and the ports before the write group
+pub record BaseWires : Type 0 where
+  pub pc : Wire
+  pub register : Wire
+  pub valid : Wire
+  pub word : Wire
+  pub iaddr : Wire
+  pub idata : Wire
+  pub mwait : Wire
+  pub stall : Wire
+  pub kill : Wire
+
+-- they are numbered in this order
+abbrev pub base_wires : Form → BaseWires
+base_wires form = record {
+  pc = wire 0 form.address;
+  register = wire 1 form.width;
+  valid = wire 2 1;
+  word = wire 3 form.word;
+  iaddr = wire 4 form.address;
+  idata = wire 5 form.word;
+  mwait = wire 6 1;
+  stall = wire 7 1;
+  kill = wire 8 1;
+}
 
 -- the four registers
 abbrev pub four_registers : Form → List ModuleNet
@@ -43,7 +70,9 @@ base_nets form = record { name = codes "pc"; width = form.address; role = Regist
 
 -- the address that is fetched is the pc; nothing stalls and nothing is killed
 abbrev pub base_assigns : Form → List Assign
-base_assigns form = record { to = wire 4 form.address; cell = cell.Copy (wire 0 form.address) } ∷ record { to = wire 7 1; cell = cell.Const 0 } ∷ record { to = wire 8 1; cell = cell.Const 0 } ∷ []
+base_assigns form =
+    let w = base_wires form in
+    record { to = w.iaddr; cell = cell.Copy w.pc } ∷ record { to = w.stall; cell = cell.Const 0 } ∷ record { to = w.kill; cell = cell.Const 0 } ∷ []
 
 abbrev pub base : Form → Draft
 base form = record { name = codes "top"; nets = base_nets form; assigns = base_assigns form; nexts = []; instances = [] }
@@ -56,16 +85,19 @@ pub record Nets : Type 0 where
   pub written : Wire
   pub one : Wire
 
--- what every solution gives them
-pub record Equations (operation : Operation) (form : Form) (nets : Nets) (read : ℕ → ℕ) : Type 0 where
-  pub iaddr : read 4 ≡ read 0
-  pub stall : read 7 ≡ 0
-  pub kill : read 8 ≡ 0
-  pub next_address : read nets.next_address.number ≡ (read 0 + 1) % 2 ^ form.address
-  pub enable : read nets.enable.number ≡ bit_and (read 2) (if read 3 == form.code then 1 else 0)
-  pub sum : read nets.sum.number ≡ result_of operation form.width (read 1) form.constant
-  pub written : read nets.written.number ≡ (if read nets.enable.number == 1 then read nets.sum.number else read 1)
+-- what every solution gives them, over those of the base
+pub record EquationsOver (base : BaseWires) (operation : Operation) (form : Form) (nets : Nets) (read : ℕ → ℕ) : Type 0 where
+  pub iaddr : read base.iaddr.number ≡ read base.pc.number
+  pub stall : read base.stall.number ≡ 0
+  pub kill : read base.kill.number ≡ 0
+  pub next_address : read nets.next_address.number ≡ (read base.pc.number + 1) % 2 ^ form.address
+  pub enable : read nets.enable.number ≡ bit_and (read base.valid.number) (if read base.word.number == form.code then 1 else 0)
+  pub sum : read nets.sum.number ≡ result_of operation form.width (read base.register.number) form.constant
+  pub written : read nets.written.number ≡ (if read nets.enable.number == 1 then read nets.sum.number else read base.register.number)
   pub one : read nets.one.number ≡ 1
+
+abbrev pub Equations : Operation → Form → Nets → (ℕ → ℕ) → Type 0
+Equations operation form nets read = EquationsOver (base_wires form) operation form nets read
 
 -- The instance of the unit over nets of the circuit: it depends on the unit's name and ports alone, so it is an instance of
 -- every unit of w bits whose sel has so many bits.
@@ -113,8 +145,9 @@ pub record IsShown (form : Form) (number select : ℕ) (d : Draft) (nets : Nets)
 
 -- what the four registers take
 abbrev pub four_nexts : Form → Nets → List Next
-four_nexts form nets = record { register = wire 0 form.address; from = nets.next_address } ∷ record { register = wire 1 form.width; from = nets.written }
-    ∷ record { register = wire 2 1; from = nets.one } ∷ record { register = wire 3 form.word; from = wire 5 form.word } ∷ []
+four_nexts form nets =
+    let w = base_wires form in
+    record { register = w.pc; from = nets.next_address } ∷ record { register = w.register; from = nets.written } ∷ record { register = w.valid; from = nets.one } ∷ record { register = w.word; from = w.idata } ∷ []
 
 -- The finished module top: beside every unit of the form's width to whose sel the number fits, they are a netlist, and do what
 -- the machine does with that unit's operation.

@@ -4,7 +4,8 @@ ghost use Rattle.ap_net.specs.declared.net.Instance.{Instance};
 ghost use Rattle.ap_net.specs.Names.{IsNew};
 ghost use Rattle.ap_net.specs.Cells.{IsNet};
 ghost use Rattle.ap_net.specs.Modules.{ModuleText, IsModule, IsNetlist, module_named};
-ghost use Rattle.ap_net.specs.Draft.{CanFresh, Makes, SettlesDraft, SettlesOpen, names_of};
+ghost use Rattle.ap_net.specs.Draft.{CanFresh, SettlesDraft, SettlesOpen, names_of};
+ghost use Rattle.ap_net.specs.Making.{Makes};
 ghost use Rattle.ap_net.specs.Placing.{Places};
 ghost use Rattle.ap_unit.specs.Units.{IsUnit};
 ghost use Rattle.ap_top.specs.Additions.{Operation, IsQuick, result_of};
@@ -18,7 +19,7 @@ use ap_bits::NoMemory;
 use ap_net::builder::Builder;
 use ap_net::cell::{Cell, TwoOp, Wire};
 use ap_net::module::{Module, Netlist};
-use ap_net::solve::{names_are_found, netlists_open, solution_exists};
+use ap_net::solve::{names_are_found, netlists_open};
 use ap_unit::UnitKind;
 use std::alloc::Global;
 
@@ -245,7 +246,7 @@ fn clocked(form: Form, number: u32, select: u32, circuit: Circuit) -> Result<Mod
     out.next(register, circuit.written)?;
     out.next(valid, circuit.one)?;
     out.next(word, fetched)?;
-    solution_exists();
+    out.rules();
     names_are_found();
     netlists_open();
     let top = out.finish()?;

@@ -12,7 +12,8 @@ use Rattle.ap_net.specs.declared.cell.TwoOp.TheVariants.{And}
 use Rattle.ap_net.specs.declared.cell.Cell.TheVariants as cell
 use Rattle.ap_net.specs.Cells.{CellFits}
 use Rattle.ap_net.specs.Wiring.{IsRegister, IsSource, reset_of}
-use Rattle.ap_net.specs.Draft.{Draft, Makes, with_assign}
+use Rattle.ap_net.specs.Draft.{Draft, with_assign}
+use Rattle.ap_net.specs.Making.{Makes}
 use Rattle.ap_net.specs.Late.{IsLate}
 use Rattle.ap_net.proofs.Lists.{some_same}
 use Rattle.ap_net.proofs.Laws.{IsNet-Makes, Makes-refl, Makes-trans, net-Adds}

@@ -5,7 +5,8 @@ use Rattle.ap_bits.specs.declared.card.Latency.TheVariants.{WidthPlusOne}
 use Rattle.ap_bits.specs.Cards.{select_width}
 use Rattle.ap_net.specs.declared.cell.Wire.{Wire}
 use Rattle.ap_net.specs.declared.net.Next.{Next}
-use Rattle.ap_net.specs.Draft.{Draft, Makes, SettlesDraft}
+use Rattle.ap_net.specs.Draft.{Draft, IsKept, SettlesDraft}
+use Rattle.ap_net.specs.Making.{Makes}
 use Rattle.ap_net.proofs.Laws.{Makes-trans}
 use Rattle.ap_unit.specs.declared.stepper.Pair.{Pair}
 use Rattle.ap_unit.specs.declared.stepper.Stepper.{Stepper}
@@ -40,9 +41,9 @@ ended_names old last new unit count state holds makes is =
 pub ended_unit : (old last new : Draft) (unit : Stepper) (next state : Pair) (count : Wire) → HoldsStepper old unit → Makes old last
     → ((read : ℕ → ℕ) → SettlesDraft last read → read count.number ≡ next_count unit read)
     → ((read : ℕ → ℕ) → SettlesDraft last read → state_of read state ≡ kept_state unit read next)
-    → new ≡ record last { nexts = step_nexts unit count state }
+    → new ≡ record last { nexts = step_nexts unit count state } → IsKept new
     → (card : Card) (method : Method) → card.latency ≡ WidthPlusOne → select_width card ≡ 1 → Reaches method card unit.a.width → MakesStep old unit method next → IsUnitDraft new card unit.a.width
-ended_unit old last new unit next state count holds makes counts keeps is card method late select reaches step =
+ended_unit old last new unit next state count holds makes counts keeps is kept card method late select reaches step =
     let w : ℕ = unit.a.width in
     let k : ℕ = unit.count.width in
     let P : Stepper → Type 0 = λ (u : Stepper).
@@ -50,5 +51,5 @@ ended_unit old last new unit next state count holds makes counts keeps is card m
     → ((read : ℕ → ℕ) → SettlesDraft last read → state_of read state ≡ kept_state u read next)
     → new ≡ record last { nexts = step_nexts u count state } → MakesStep old u method next → IsUnitDraft new card w in
     let here : P (step_wires w k) = λ counts keeps is step.
-    subst (λ (d : Draft). IsUnitDraft d card w) (sym is) (unit_of_steps old last w k next state count holds.room holds.low holds.made makes counts keeps card method late select reaches step) in
+    subst (λ (d : Draft). IsUnitDraft d card w) (sym is) (unit_of_steps old last w k next state count holds.room holds.low holds.made makes counts keeps (subst IsKept is kept) card method late select reaches step) in
     subst P (sym holds.wires) here counts keeps is step

@@ -1,5 +1,5 @@
 -- From a draft to the module that is made of it.
-use Rattle.std.proofs.Common.{◌≡◌, ◌≢◌, ℕ, suc, zero, List, [], ◌∷◌, map, Some, refl, sym, ap, ◌∙◌}
+use Rattle.std.proofs.Common.{◌≡◌, ◌≢◌, ℕ, suc, zero, List, [], ◌∷◌, map, Some, true, refl, sym, ap, ◌∙◌}
 use Rattle.std.specs.Prelude.{slice_get}
 use Rattle.std.specs.List.{AllByRecursion as Each}
 use Rattle.std.proofs.lemmas.Option.{slice_get_within}
@@ -8,6 +8,11 @@ use Rattle.ap_net.specs.Names.{AreDistinct}
 use Rattle.ap_net.specs.Draft.{Draft}
 use Rattle.ap_net.specs.Modules.{ModuleText, IsModule, nets_of}
 use Rattle.ap_net.specs.Finished.{IsFinished}
+use Rattle.ap_net.specs.Ready.{Dependence}
+
+-- a unit is by itself: no outside looks at its nets, and no module is placed in it
+abbrev pub isolated : Dependence
+isolated = record { looks = λ n. []; needs = λ name p q. true }
 
 -- no name of the rest stands at a place
 pub not_there : (name : List ℕ) (nets : List ModuleNet) (i : ℕ) (x : ModuleNet) → Each (λ other. other ≢ name) (map (λ (n : ModuleNet). n.name) nets) → slice_get nets i ≡ Some x → x.name ≢ name

@@ -16,7 +16,8 @@ use Rattle.ap_net.specs.declared.net.Instance.{Instance}
 use Rattle.ap_net.specs.declared.net.Net.{Net}
 use Rattle.ap_net.specs.Names.{IsNew, IsNotNumbered, numbered}
 use Rattle.ap_net.specs.Wiring.{reset_of, taken_names, names_taken}
-use Rattle.ap_net.specs.Draft.{Draft, Makes, RegistersBelow, names_of}
+use Rattle.ap_net.specs.Draft.{Draft, RegistersBelow, names_of}
+use Rattle.ap_net.specs.Making.{Makes}
 use Rattle.ap_net.specs.Modules.{ModuleText, IsModule, nets_of, nets_among, port_net, wire_net, reg_net, regs_among, ports_among}
 use Rattle.ap_net.specs.Finished.{IsFinished}
 use Rattle.ap_net.proofs.Laws.{IsNew-made}

@@ -1,5 +1,5 @@
 -- A draft of inputs, fresh wires and the output y is a unit that takes one cycle.
-use Rattle.std.proofs.Common.{◌≡◌, ℕ, suc, zero, List, [], ◌∷◌, ◌++◌, map, Some, true, refl, sym, ap, subst, ◌∙◌, arith}
+use Rattle.std.proofs.Common.{◌≡◌, ℕ, suc, zero, ◌<◌, List, [], ◌∷◌, ◌++◌, map, Some, true, refl, sym, ap, subst, ◌∙◌, arith}
 use Rattle.std.specs.Prelude.{slice_get, codes}
 use Rattle.ap_bits.specs.declared.card.Card.{Card}
 use Rattle.ap_bits.specs.declared.card.Latency.TheVariants.{One}
@@ -9,24 +9,27 @@ use Rattle.ap_net.specs.declared.net.Role.TheVariants as role
 use Rattle.ap_net.specs.declared.net.ModuleNet.{ModuleNet}
 use Rattle.ap_net.specs.declared.net.Port.{Port}
 use Rattle.ap_net.specs.Wiring.{IsDriven, reset_of}
-use Rattle.ap_net.specs.Draft.{Draft, Adds, Closes, Makes, SettlesDraft, AreDriven, RegistersBelow}
+use Rattle.ap_net.specs.Draft.{Draft, IsKept, Adds, SettlesDraft, RegistersBelow}
+use Rattle.ap_net.specs.Ready.{Ready, AllReady}
+use Rattle.ap_net.specs.Making.{Closes, Makes}
 use Rattle.ap_net.specs.Modules.{ModuleText, IsModule, nets_of, nets_among, ports_among, instance_placed}
 use Rattle.ap_net.specs.Finished.{IsFinished}
-use Rattle.ap_net.proofs.Laws.{Adds-trans, net-Adds, ports_among-shown}
+use Rattle.ap_net.proofs.Laws.{Extends-refl, Adds-trans, net-Adds, ports_among-shown, Ready-source, Ready-Extends, ready_are_driven, ready_are_ordered}
 use Rattle.ap_unit.specs.Units.{Computes, Behaves, ports_by}
 use Rattle.ap_unit.specs.Built.{IsUnitDraft}
 use Rattle.ap_unit.specs.Pieces.{with_inputs, input_wires, input_net, output_net, HasValue}
 use Rattle.ap_unit.specs.Named.{NamesPlainly}
 use Rattle.ap_unit.proofs.PlainNames.{named_plainly}
-use Rattle.ap_unit.proofs.Placed.{place_is}
+use Rattle.ap_unit.proofs.Placed.{place_is, isolated}
 
--- of the inputs none has to be driven, and none is a register
-inputs_driven : (name : List ℕ) (s w : ℕ) → AreDriven (with_inputs name s w)
-inputs_driven name s w zero net at other none joined = let same : input_net (codes "sel") s ≡ net = cc in other (rw (← same) tt)
-inputs_driven name s w (suc zero) net at other none joined = let same : input_net (codes "a") w ≡ net = cc in other (rw (← same) tt)
-inputs_driven name s w (suc (suc zero)) net at other none joined = let same : input_net (codes "b") w ≡ net = cc in other (rw (← same) tt)
-inputs_driven name s w (suc (suc (suc n))) net at other none joined = cc
+-- the inputs are ready
+input_ready : (name : List ℕ) (s w n : ℕ) → n < 3 → Ready isolated (with_inputs name s w) n
+input_ready name s w zero lt = Ready-source isolated (with_inputs name s w) 0 (input_net (codes "sel") s) refl tt tt
+input_ready name s w (suc zero) lt = Ready-source isolated (with_inputs name s w) 1 (input_net (codes "a") w) refl tt tt
+input_ready name s w (suc (suc zero)) lt = Ready-source isolated (with_inputs name s w) 2 (input_net (codes "b") w) refl tt tt
+input_ready name s w (suc (suc (suc n))) lt = absurd (omega arith)
 
+-- and none is a register
 inputs_below : (name : List ℕ) (s w : ℕ) → RegistersBelow (with_inputs name s w).nets 0
 inputs_below name s w zero net at is = let same : input_net (codes "sel") s ≡ net = cc in let r : role.Input ≡ role.Register (reset_of role.Input) = subst (λ (x : ModuleNet). x.role ≡ role.Register (reset_of x.role)) (sym same) is in cc
 inputs_below name s w (suc zero) net at is = let same : input_net (codes "a") w ≡ net = cc in let r : role.Input ≡ role.Register (reset_of role.Input) = subst (λ (x : ModuleNet). x.role ≡ role.Register (reset_of x.role)) (sym same) is in cc
@@ -36,18 +39,23 @@ inputs_below name s w (suc (suc (suc n))) net at is = cc
 module _ (old new : Draft) (s w : ℕ) (y shown : Wire)
     (made : Makes (with_inputs old.name s w) old) (nets : new.nets ≡ old.nets ++ output_net (codes "y") w ∷ []) (adds : Adds old new) (closes : Closes old new) (same : new.instances ≡ old.instances)
     (there : slice_get new.nets shown.number ≡ Some (output_net (codes "y") w))
-    (equation : (read : ℕ → ℕ) → SettlesDraft new read → SettlesDraft old read × (read shown.number ≡ read y.number)) where
+    (equation : (read : ℕ → ℕ) → SettlesDraft new read → SettlesDraft old read × (read shown.number ≡ read y.number)) (kept : IsKept new) where
+  begins : Adds (with_inputs old.name s w) new
+  begins = Adds-trans _ _ _ made.adds adds
+
+  all_ready : AllReady isolated new
+  all_ready n lt =
+      closes.ready isolated new (Extends-refl new)
+      (λ k there. made.closes.ready isolated new adds.extends (λ i input. Ready-Extends isolated (with_inputs old.name s w) new i begins.extends (input_ready old.name s w i input)) k there) n lt
+
   all_driven : IsDriven new.nets new.assigns new.nexts new.instances
   all_driven = record {
-    driven = closes.driven (made.closes.driven (inputs_driven old.name s w));
+    driven = ready_are_driven isolated new all_ready;
     clocked = λ n net at is none. let lt = closes.registers 0 (made.closes.registers 0 (inputs_below old.name s w)) n net at is in absurd (omega arith);
   }
 
   its_ports : ports_among new.nets ≡ ports_by One s w
   its_ports = ap ports_among nets ∙ ports_among-shown old.nets (codes "y") w ∙ ap (λ (ports : List Port). ports ++ record { name = codes "y"; width = w; output = true } ∷ []) made.ports
-
-  begins : Adds (with_inputs old.name s w) new
-  begins = Adds-trans _ _ _ made.adds adds
 
   computes : (card : Card) → HasValue old (input_wires s w) y card → (m : ModuleText) → IsModule m → IsFinished new m → Computes m card w
   computes card value m rules f read settled lt =
@@ -68,7 +76,7 @@ module _ (old new : Draft) (s w : ℕ) (y shown : Wire)
     unit = λ m rules f. record {
       ports = f.ports ∙ its_ports ∙ (λ i. ports_by (sym one i) (select i) w);
       instances = f.instances ∙ ap (map (instance_placed f.place)) (same ∙ made.instances);
-      ordered = let r = begins.order (λ n. 0) tt in (λ n. r.after (f.back n), f.orders r.after r.ranked);
+      ordered = ready_are_ordered isolated new m kept (same ∙ made.instances) all_ready f;
       behaves = subst (λ l. Behaves l m card w) (sym one) (computes card value m rules f);
     };
   }

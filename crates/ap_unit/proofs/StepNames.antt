@@ -11,7 +11,8 @@ use Rattle.ap_net.specs.declared.net.RegNet.{RegNet}
 use Rattle.ap_net.specs.declared.cell.Wire.{Wire}
 use Rattle.ap_net.specs.Names.{IsNew, IsNotNumbered}
 use Rattle.ap_net.specs.Wiring.{reset_of}
-use Rattle.ap_net.specs.Draft.{Draft, Makes, names_of}
+use Rattle.ap_net.specs.Draft.{Draft, names_of}
+use Rattle.ap_net.specs.Making.{Makes}
 use Rattle.ap_net.specs.Modules.{ModuleText, IsModule, nets_of, port_net, wire_net, reg_net, regs_among}
 use Rattle.ap_net.specs.Finished.{IsFinished}
 use Rattle.ap_net.proofs.Laws.{net-Adds}

@@ -1,34 +1,54 @@
--- The nets of a unit that makes a step a cycle, as it begins: which are driven, which are registers, and how they may be ranked.
-use Rattle.std.proofs.Common.{◌≡◌, ℕ, suc, zero, ◌<◌, ◌≤◌, ⊎_elim, List, [], ◌∷◌, ◌++◌, get_or, Some, refl, sym, ap, subst, ◌∙◌, arith}
-use Rattle.std.specs.Prelude.{slice_get, codes, nat_lt, if◌then◌else◌, IsTrue}
+-- The nets of a unit that makes a step a cycle, as it begins: which are ready, which are registers, and on which nets the outputs
+-- depend.
+use Rattle.std.proofs.Common.{◌≡◌, ℕ, suc, zero, ◌<◌, ◌≤◌, ◌||◌, inl, inr, ⊎_elim, List, [], ◌∷◌, ◌++◌, Some, Bool, true, false, refl, sym, ap, subst, ◌∙◌, arith}
+use Rattle.std.specs.Prelude.{◌⊎◌, ◌==◌, slice_get, codes, IsTrue}
 use Rattle.std.specs.List.{AllByRecursion as Each}
-use Rattle.std.proofs.lemmas.Bool.{cases_lt, lt-ltb, le-ltb, ltb-true}
+use Rattle.std.proofs.lemmas.Bool.Decides.{Decides-eqb}
 use Rattle.ap_net.specs.declared.cell.Wire.{Wire}
 use Rattle.ap_net.specs.declared.net.Role.{Role}
 use Rattle.ap_net.specs.declared.net.Role.TheVariants as role
 use Rattle.ap_net.specs.declared.net.ModuleNet.{ModuleNet}
 use Rattle.ap_net.specs.declared.net.Assign.{Assign}
 use Rattle.ap_net.specs.Cells.{operands}
-use Rattle.ap_net.specs.Wiring.{Ranked, reset_of}
-use Rattle.ap_net.specs.Draft.{Draft, AreDriven, RegistersBelow, GrowsUp}
+use Rattle.ap_net.specs.Wiring.{IsSource, reset_of}
+use Rattle.ap_net.specs.Draft.{Draft, RegistersBelow}
+use Rattle.ap_net.specs.Depends.{IsClosed}
+use Rattle.ap_net.specs.Ready.{Feeds, assign, Ready, AreReady}
+use Rattle.ap_net.specs.Making.{DrivesItsOwn}
+use Rattle.ap_net.proofs.Laws.{Extends-refl, Ready-source, ReadyAfter-Feeds}
+use Rattle.ap_net.proofs.Lists.{All-from, All-join}
 use Rattle.ap_unit.specs.Pieces.{input_net, output_net}
-use Rattle.ap_unit.specs.Stepping.{register_net, fresh_net, step_nets, with_stepper}
+use Rattle.ap_unit.specs.Stepping.{register_net, fresh_net, step_nets, due_assign, left_assign, busy_assign, shown_assign, with_stepper}
+use Rattle.ap_unit.proofs.Placed.{isolated}
 
--- every wire and output of the beginning is driven
-pub stepper_driven : (name : List ℕ) (w k : ℕ) → AreDriven (with_stepper name w k)
-stepper_driven name w k zero net at other none joined = let same : input_net (codes "sel") 1 ≡ net = cc in other (rw (← same) tt)
-stepper_driven name w k (suc zero) net at other none joined = let same : input_net (codes "a") w ≡ net = cc in other (rw (← same) tt)
-stepper_driven name w k (suc (suc zero)) net at other none joined = let same : input_net (codes "b") w ≡ net = cc in other (rw (← same) tt)
-stepper_driven name w k (suc (suc (suc zero))) net at other none joined = let same : input_net (codes "go") 1 ≡ net = cc in other (rw (← same) tt)
-stepper_driven name w k (suc (suc (suc (suc zero)))) net at other none joined = let same : input_net (codes "adv") 1 ≡ net = cc in other (rw (← same) tt)
-stepper_driven name w k (suc (suc (suc (suc (suc zero))))) net at other none joined = none.1.1.0 refl
-stepper_driven name w k (suc (suc (suc (suc (suc (suc zero)))))) net at other none joined = none.1.1.1.0 refl
-stepper_driven name w k (suc (suc (suc (suc (suc (suc (suc zero))))))) net at other none joined = let same : register_net (codes "q0") k ≡ net = cc in other (rw (← same) tt)
-stepper_driven name w k (suc (suc (suc (suc (suc (suc (suc (suc zero)))))))) net at other none joined = let same : register_net (codes "q1") w ≡ net = cc in other (rw (← same) tt)
-stepper_driven name w k (suc (suc (suc (suc (suc (suc (suc (suc (suc zero))))))))) net at other none joined = let same : register_net (codes "q2") w ≡ net = cc in other (rw (← same) tt)
-stepper_driven name w k (suc (suc (suc (suc (suc (suc (suc (suc (suc (suc zero)))))))))) net at other none joined = none.0 refl
-stepper_driven name w k (suc (suc (suc (suc (suc (suc (suc (suc (suc (suc (suc zero))))))))))) net at other none joined = none.1.0 refl
-stepper_driven name w k (suc (suc (suc (suc (suc (suc (suc (suc (suc (suc (suc (suc n)))))))))))) net at other none joined = cc
+-- every net of the beginning is ready: what the outside and the registers give, and the four nets that are driven
+source_ready : (name : List ℕ) (w k n : ℕ) (net : ModuleNet) → slice_get (step_nets w k) n ≡ Some net → IsSource net.role → Ready isolated (with_stepper name w k) n
+source_ready name w k n net at is = Ready-source isolated (with_stepper name w k) n net at is tt
+
+driven_ready : (name : List ℕ) (w k n : ℕ) (from : List ℕ) → Feeds isolated (with_stepper name w k) n from → AreReady isolated (with_stepper name w k) from → Ready isolated (with_stepper name w k) n
+driven_ready name w k n from feeds each = ReadyAfter-Feeds isolated (with_stepper name w k) n from feeds (with_stepper name w k) (Extends-refl (with_stepper name w k)) each
+
+due_ready : (name : List ℕ) (w k : ℕ) → Ready isolated (with_stepper name w k) 10
+due_ready name w k = driven_ready name w k 10 [] (assign 0 (due_assign w k) refl refl refl) tt
+
+left_ready : (name : List ℕ) (w k : ℕ) → Ready isolated (with_stepper name w k) 11
+left_ready name w k = driven_ready name w k 11 (7 ∷ 10 ∷ []) (assign 1 (left_assign k) refl refl refl) (source_ready name w k 7 _ refl tt, (due_ready name w k, tt))
+
+pub stepper_ready : (name : List ℕ) (w k n : ℕ) → n < 12 → Ready isolated (with_stepper name w k) n
+stepper_ready name w k zero lt = source_ready name w k 0 _ refl tt
+stepper_ready name w k (suc zero) lt = source_ready name w k 1 _ refl tt
+stepper_ready name w k (suc (suc zero)) lt = source_ready name w k 2 _ refl tt
+stepper_ready name w k (suc (suc (suc zero))) lt = source_ready name w k 3 _ refl tt
+stepper_ready name w k (suc (suc (suc (suc zero)))) lt = source_ready name w k 4 _ refl tt
+stepper_ready name w k (suc (suc (suc (suc (suc zero))))) lt = driven_ready name w k 5 (3 ∷ 11 ∷ []) (assign 2 busy_assign refl refl refl) (source_ready name w k 3 _ refl tt, (left_ready name w k, tt))
+stepper_ready name w k (suc (suc (suc (suc (suc (suc zero)))))) lt =
+    driven_ready name w k 6 (0 ∷ 8 ∷ 9 ∷ []) (assign 3 (shown_assign w) refl refl refl) (source_ready name w k 0 _ refl tt, (source_ready name w k 8 _ refl tt, (source_ready name w k 9 _ refl tt, tt)))
+stepper_ready name w k (suc (suc (suc (suc (suc (suc (suc zero))))))) lt = source_ready name w k 7 _ refl tt
+stepper_ready name w k (suc (suc (suc (suc (suc (suc (suc (suc zero)))))))) lt = source_ready name w k 8 _ refl tt
+stepper_ready name w k (suc (suc (suc (suc (suc (suc (suc (suc (suc zero))))))))) lt = source_ready name w k 9 _ refl tt
+stepper_ready name w k (suc (suc (suc (suc (suc (suc (suc (suc (suc (suc zero)))))))))) lt = due_ready name w k
+stepper_ready name w k (suc (suc (suc (suc (suc (suc (suc (suc (suc (suc (suc zero))))))))))) lt = left_ready name w k
+stepper_ready name w k (suc (suc (suc (suc (suc (suc (suc (suc (suc (suc (suc (suc n)))))))))))) lt = absurd (omega arith)
 
 -- what isn't a register has another role
 no_register : (net other : ModuleNet) (r : Role) → other.role ≡ r → (r ≡ role.Register (reset_of r) → ⊥) → other ≡ net → net.role ≡ role.Register (reset_of net.role) → ⊥
@@ -63,48 +83,27 @@ below_10 w k n net low = omega arith
 pub stepper_below : (w k : ℕ) → RegistersBelow (step_nets w k) 10
 stepper_below w k n net at is = below_10 w k n net (step_register w k n net at is)
 
--- A rank of the nets: those of the beginning by a table, and fresh wires by their numbers.
-abbrev pub rank_by : List ℕ → ℕ → ℕ
-rank_by table n = if nat_lt n 12 then get_or table n 0 else n
+-- whether a number is among these
+abbrev pub is_among : List ℕ → ℕ → Bool
+is_among [] n = false
+is_among (k ∷ ks) n = (k == n) || is_among ks n
 
-below_12 : (table : List ℕ) → Each (λ r. r < 12) table → (n : ℕ) → get_or table n 0 < 12
-below_12 [] all n = omega arith
-below_12 (r ∷ table) all zero = all.0
-below_12 (r ∷ table) all (suc n) = below_12 table all.1 n
+either : (a b : Bool) → (a || b) ≡ true → (a ≡ true) ⊎ (b ≡ true)
+either true b h = inl refl
+either false b h = inr h
 
-rises : (table : List ℕ) → Each (λ r. r < 12) table → (o t : ℕ) → 12 ≤ t → o < t → rank_by table o < rank_by table t
-rises table all o t late before =
-    let top : rank_by table t ≡ t = rw (le-ltb t 12 late) refl in
+-- numbers of the beginning are none of those that came
+not_among : (ks : List ℕ) → Each (λ k. k < 12) ks → (n : ℕ) → 12 ≤ n → is_among ks n ≡ true → ⊥
+not_among [] small n late h = cc
+not_among (k ∷ ks) small n late h =
     ⊎_elim
-    (λ early. let here : rank_by table o ≡ get_or table o 0 = rw (lt-ltb o 12 early) refl in omega (arith, below_12 table all o))
-    (λ later. let here : rank_by table o ≡ o = rw (le-ltb o 12 later) refl in omega arith)
-    (cases_lt o 12)
+    (λ e. let same : k ≡ n = (Decides-eqb k n).0 e in let low : k < 12 = small.0 in absurd (omega arith))
+    (λ later. not_among ks small.1 n late later)
+    (either (k == n) (is_among ks n) h)
 
-each_rises : (table : List ℕ) → Each (λ r. r < 12) table → (t : ℕ) → 12 ≤ t → (os : List Wire) → Each (λ (o : Wire). o.number < t) os → Each (λ (o : Wire). rank_by table o.number < rank_by table t) os
-each_rises table all t late [] h = tt
-each_rises table all t late (o ∷ os) h = (rises table all o.number t late h.0, each_rises table all t late os h.1)
-
-later_ranked : (table : List ℕ) → Each (λ r. r < 12) table → (more : List Assign) → Each (λ (a : Assign). (12 ≤ a.to.number) × Each (λ (o : Wire). o.number < a.to.number) (operands a.cell)) more → Ranked (rank_by table) more
-later_ranked table all [] h = tt
-later_ranked table all (a ∷ more) h = (each_rises table all a.to.number h.0.0 (operands a.cell) h.0.1, later_ranked table all more h.1)
-
-both_ranked : (rank : ℕ → ℕ) (xs ys : List Assign) → Ranked rank xs → Ranked rank ys → Ranked rank (xs ++ ys)
-both_ranked rank [] ys hx hy = hy
-both_ranked rank (x ∷ xs) ys hx hy = (hx.0, both_ranked rank xs ys hx.1 hy)
-
--- where the table ranks the assigns of the beginning, all are ranked
-pub grown_ranked : (table : List ℕ) → Each (λ r. r < 12) table → (name : List ℕ) (w k : ℕ) (d : Draft) → Ranked (rank_by table) (with_stepper name w k).assigns
-    → GrowsUp (with_stepper name w k) d → Ranked (rank_by table) d.assigns
-unfolding GrowsUp
-grown_ranked table all name w k d first (more, is, later) =
-    subst (Ranked (rank_by table)) (sym is) (both_ranked (rank_by table) (with_stepper name w k).assigns more first (later_ranked table all more later))
-
--- the nets below a rank are closed: with each that is driven so are those that its cell reads
-each_below : (rank : ℕ → ℕ) (bound t : ℕ) → rank t < bound → (os : List Wire) → Each (λ (o : Wire). rank o.number < rank t) os → Each (λ (o : Wire). IsTrue (nat_lt (rank o.number) bound)) os
-each_below rank bound t lt [] h = tt
-each_below rank bound t lt (o ∷ os) h = (lt-ltb (rank o.number) bound (omega (arith, h.0)), each_below rank bound t lt os h.1)
-
-pub ranked_closed : (rank : ℕ → ℕ) (bound : ℕ) (assigns : List Assign) → Ranked rank assigns
-    → Each (λ (a : Assign). IsTrue (nat_lt (rank a.to.number) bound) → Each (λ (o : Wire). IsTrue (nat_lt (rank o.number) bound)) (operands a.cell)) assigns
-ranked_closed rank bound [] h = tt
-ranked_closed rank bound (a ∷ assigns) h = (λ low. each_below rank bound a.to.number (ltb-true (rank a.to.number) bound low) (operands a.cell) h.0, ranked_closed rank bound assigns h.1)
+-- what is closed at the beginning is closed at the end, since what came drives nothing of the beginning
+pub grown_closed : (ks : List ℕ) → Each (λ k. k < 12) ks → (name : List ℕ) (w k : ℕ) (d : Draft) → IsClosed (with_stepper name w k).assigns (is_among ks) → DrivesItsOwn (with_stepper name w k) d → IsClosed d.assigns (is_among ks)
+grown_closed ks small name w k d first own =
+    let P : Assign → Type 0 = λ a. IsTrue (is_among ks a.to.number) → Each (λ (o : Wire). IsTrue (is_among ks o.number)) (operands a.cell) in
+    subst (Each P) (sym own.assigns)
+    (All-join P (with_stepper name w k).assigns own.more first (All-from (λ (a : Assign). 12 ≤ a.to.number) P (λ a late inside. absurd (not_among ks small a.to.number late inside)) own.more own.above))

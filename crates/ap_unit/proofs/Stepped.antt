@@ -1,5 +1,5 @@
 -- A draft of the beginning, the cells of a step, and what the registers take is a unit that makes a step a cycle.
-use Rattle.std.proofs.Common.{◌≡◌, ℕ, suc, zero, ◌+◌, ◌-◌, ◌%◌, ◌^◌, ◌<◌, ◌≤◌, List, [], ◌∷◌, length, map, Some, true, false, refl, sym, ap, subst, ◌∙◌, arith}
+use Rattle.std.proofs.Common.{◌≡◌, ℕ, suc, zero, ◌+◌, ◌-◌, ◌%◌, ◌^◌, ◌<◌, ◌≤◌, List, [], ◌∷◌, ◌++◌, length, map, append-nil, Some, true, false, refl, sym, ap, subst, ◌∙◌, arith}
 use Rattle.std.specs.Prelude.{slice_get, codes, nat_lt, bit_and, ◌==◌, ◌↔◌, if◌then◌else◌}
 use Rattle.std.specs.List.{AllByRecursion as Each}
 use Rattle.std.proofs.lemmas.Option.{slice_get_within}
@@ -12,42 +12,47 @@ use Rattle.ap_net.specs.declared.net.Role.TheVariants as role
 use Rattle.ap_net.specs.declared.net.ModuleNet.{ModuleNet}
 use Rattle.ap_net.specs.declared.net.Port.{Port}
 use Rattle.ap_net.specs.declared.net.Next.{Next}
-use Rattle.ap_net.specs.Wiring.{IsDriven, Unclocked, Ranked, reset_of, Settles}
-use Rattle.ap_net.specs.Draft.{Draft, Makes, SettlesDraft}
+use Rattle.ap_net.specs.Wiring.{IsDriven, Unclocked, reset_of, Settles}
+use Rattle.ap_net.specs.Draft.{Draft, IsKept, Extends, SettlesDraft}
+use Rattle.ap_net.specs.Ready.{AllReady}
+use Rattle.ap_net.specs.Making.{Makes}
 use Rattle.ap_net.specs.Modules.{ModuleText, IsModule, nets_of, nets_among, ports_among, reset_at, reset_value, next_placed, instance_placed}
 use Rattle.ap_net.specs.Finished.{IsFinished}
-use Rattle.ap_net.proofs.Laws.{Makes-trans, net-Adds, Settles-before}
+use Rattle.ap_net.proofs.Laws.{Extends-trans, Makes-trans, net-Adds, Settles-before, Ready-Extends, ready_are_driven, ready_are_ordered, IsClosed-placed}
 use Rattle.ap_unit.specs.declared.stepper.Pair.{Pair}
 use Rattle.ap_unit.specs.Ages.{age_at, IsHeld, AreProper}
-use Rattle.ap_net.specs.Depends.{DependsOnNone}
+use Rattle.ap_net.specs.Depends.{IsClosed, DependsOnNone}
 use Rattle.ap_net.specs.Alone.{RunsAlone}
-use Rattle.ap_unit.specs.Units.{ComputesInCycles, Behaves, ports_by, input_of, ShowsAge}
+use Rattle.ap_unit.specs.Units.{ComputesInCycles, Behaves, ports_by, input_of, ShowsAge, busy_of, result_of}
 use Rattle.ap_unit.specs.Built.{IsUnitDraft}
 use Rattle.ap_unit.specs.Pieces.{input_net, output_net}
 use Rattle.ap_unit.specs.Methods.{State, Method, Reaches}
 use Rattle.ap_unit.specs.Stepping.{register_net, step_nets, with_stepper, step_wires, step_nexts, state_of, kept_state, next_count, MakesStep}
-use Rattle.ap_unit.proofs.Placed.{place_is}
+use Rattle.ap_unit.proofs.Placed.{place_is, isolated}
 use Rattle.ap_unit.proofs.Counted.{Cycle, left_of, busy_shown, value_shown}
-use Rattle.ap_unit.proofs.StepNets.{stepper_driven, step_register, stepper_below, IsStepRegister, counter, high, low, rank_by, grown_ranked, ranked_closed}
+use Rattle.ap_unit.proofs.StepNets.{stepper_ready, step_register, stepper_below, IsStepRegister, counter, high, low, is_among, grown_closed}
 
--- ranks by which busy comes before all but go and the counter, and y before all but sel and the state
-abbrev busy_ranks : List ℕ
-busy_ranks = 3 ∷ 3 ∷ 3 ∷ 0 ∷ 3 ∷ 2 ∷ 4 ∷ 0 ∷ 3 ∷ 3 ∷ 0 ∷ 1 ∷ []
+-- the nets on which busy depends, and those on which y does
+abbrev busy_nets : List ℕ
+busy_nets = 3 ∷ 5 ∷ 7 ∷ 10 ∷ 11 ∷ []
 
-abbrev value_ranks : List ℕ
-value_ranks = 0 ∷ 2 ∷ 2 ∷ 2 ∷ 2 ∷ 4 ∷ 1 ∷ 2 ∷ 0 ∷ 0 ∷ 2 ∷ 3 ∷ []
+abbrev value_nets : List ℕ
+value_nets = 0 ∷ 6 ∷ 8 ∷ 9 ∷ []
 
-small_busy : Each (λ r. r < 12) busy_ranks
-small_busy = (omega arith, (omega arith, (omega arith, (omega arith, (omega arith, (omega arith, (omega arith, (omega arith, (omega arith, (omega arith, (omega arith, (omega arith, tt))))))))))))
+small_busy : Each (λ k. k < 12) busy_nets
+small_busy = (omega arith, (omega arith, (omega arith, (omega arith, (omega arith, tt)))))
 
-small_value : Each (λ r. r < 12) value_ranks
-small_value = (omega arith, (omega arith, (omega arith, (omega arith, (omega arith, (omega arith, (omega arith, (omega arith, (omega arith, (omega arith, (omega arith, (omega arith, tt))))))))))))
+small_value : Each (λ k. k < 12) value_nets
+small_value = (omega arith, (omega arith, (omega arith, (omega arith, tt))))
 
-busy_ranked : (name : List ℕ) (w k : ℕ) → Ranked (rank_by busy_ranks) (with_stepper name w k).assigns
-busy_ranked name w k = (tt, ((omega arith, (omega arith, tt)), ((omega arith, (omega arith, tt)), ((omega arith, (omega arith, (omega arith, tt))), tt))))
+never : false ≡ true → ⊥
+never e = cc
 
-value_ranked : (name : List ℕ) (w k : ℕ) → Ranked (rank_by value_ranks) (with_stepper name w k).assigns
-value_ranked name w k = (tt, ((omega arith, (omega arith, tt)), ((omega arith, (omega arith, tt)), ((omega arith, (omega arith, (omega arith, tt))), tt))))
+busy_closed : (name : List ℕ) (w k : ℕ) → IsClosed (with_stepper name w k).assigns (is_among busy_nets)
+busy_closed name w k = (λ h. tt, (λ h. (refl, (refl, tt)), (λ h. (refl, (refl, tt)), (λ h. absurd (never h), tt))))
+
+value_closed : (name : List ℕ) (w k : ℕ) → IsClosed (with_stepper name w k).assigns (is_among value_nets)
+value_closed name w k = (λ h. tt, (λ h. absurd (never h), (λ h. absurd (never h), (λ h. (refl, (refl, (refl, tt))), tt))))
 
 some_at : {X : Type 0} (xs : List X) (n : ℕ) → n < length xs → (x : X) × (slice_get xs n ≡ Some x)
 some_at [] n h = absurd (omega arith)
@@ -69,12 +74,41 @@ its_register old last w k all n net at is =
 module _ (old last : Draft) (w k : ℕ) (next state : Pair) (count : Wire) (room : w < 2 ^ k) (some : 1 ≤ w)
     (begins : Makes (with_stepper old.name w k) old) (makes : Makes old last)
     (counts : (read : ℕ → ℕ) → SettlesDraft last read → read count.number ≡ next_count (step_wires w k) read)
-    (keeps : (read : ℕ → ℕ) → SettlesDraft last read → state_of read state ≡ kept_state (step_wires w k) read next) where
+    (keeps : (read : ℕ → ℕ) → SettlesDraft last read → state_of read state ≡ kept_state (step_wires w k) read next) (kept : IsKept (ended last w k count state)) where
+  -- the nets of the beginning, by their numbers
+  abbrev count_net : ℕ
+  count_net = (step_wires w k).count.number
+
+  abbrev running_net : ℕ
+  running_net = (step_wires w k).running.number
+
+  abbrev high_net : ℕ
+  high_net = (step_wires w k).held.high.number
+
+  abbrev low_net : ℕ
+  low_net = (step_wires w k).held.low.number
+
   all : Makes (with_stepper old.name w k) last
   all = Makes-trans (with_stepper old.name w k) old last begins makes
 
   there : (n : ℕ) (net : ModuleNet) → slice_get (step_nets w k) n ≡ Some net → slice_get last.nets n ≡ Some net
   there n net at = net-Adds (with_stepper old.name w k) last n net all.adds at
+
+  -- every net is ready
+  goes_on : Extends last (ended last w k count state)
+  goes_on = record {
+    name = refl;
+    nets = ([], sym (append-nil last.nets));
+    assigns = ([], sym (append-nil last.assigns));
+    nexts = (step_nexts (step_wires w k) count state, ap (λ l. l ++ step_nexts (step_wires w k) count state) (sym all.adds.nexts));
+    instances = ([], sym (append-nil last.instances));
+  }
+
+  all_ready : AllReady isolated (ended last w k count state)
+  all_ready n lt =
+      let base : Draft = with_stepper old.name w k in
+      let new : Draft = ended last w k count state in
+      all.closes.ready isolated new goes_on (λ i first. Ready-Extends isolated base new i (Extends-trans base last new all.adds.extends goes_on) (stepper_ready old.name w k i first)) n lt
 
   -- every wire, output and register is driven
   clocked : (n : ℕ) (net : ModuleNet) → IsStepRegister w k n net → Unclocked (step_nexts (step_wires w k) count state) n → ⊥
@@ -84,7 +118,7 @@ module _ (old last : Draft) (w k : ℕ) (next state : Pair) (count : Wire) (room
 
   all_driven : IsDriven last.nets last.assigns (step_nexts (step_wires w k) count state) last.instances
   all_driven = record {
-    driven = all.closes.driven (stepper_driven old.name w k);
+    driven = ready_are_driven isolated (ended last w k count state) all_ready;
     clocked = λ n net at is none. clocked n net (its_register old last w k all n net at is) none;
   }
 
@@ -126,24 +160,30 @@ module _ (old last : Draft) (w k : ℕ) (next state : Pair) (count : Wire) (room
     back_at : (p : ℕ) (x : ModuleNet) → slice_get (step_nets w k) p ≡ Some x → f.place p ≡ p → f.back p ≡ p
     back_at p x at here = ap f.back (sym here) ∙ f.returns p (slice_get_within last.nets p x (there p x at))
 
-    depends : (table : List ℕ) → Each (λ r. r < 12) table → Ranked (rank_by table) (with_stepper old.name w k).assigns → (bound n : ℕ) (others : List ℕ)
-        → nat_lt (rank_by table (f.back n)) bound ≡ true → Each (λ other. nat_lt (rank_by table (f.back other)) bound ≡ false) others → DependsOnNone m.assigns n others
-    depends table small first bound n others itself none =
-        let ranked = f.orders (rank_by table) (grown_ranked table small old.name w k last first all.adds.grows) in
-        ((λ k. nat_lt (rank_by table (f.back k)) bound), record { itself = itself; closed = ranked_closed (λ k. rank_by table (f.back k)) bound m.assigns ranked }, none)
+    depends : (ks : List ℕ) → Each (λ i. i < 12) ks → IsClosed (with_stepper old.name w k).assigns (is_among ks) → (n : ℕ) (others : List ℕ)
+        → is_among ks (f.back n) ≡ true → Each (λ other. is_among ks (f.back other) ≡ false) others → DependsOnNone m.assigns n others
+    depends ks small first n others itself none = (
+      (λ i. is_among ks (f.back i)),
+      record {
+        itself = itself;
+        closed = subst (λ l. IsClosed l (λ i. is_among ks (f.back i))) (sym f.assigns)
+            (IsClosed-placed last.nets last.assigns (step_nexts (step_wires w k) count state) f.place f.back (is_among ks) kept.wired f.returns (grown_closed ks small old.name w k last first all.closes.own));
+      },
+      none,
+    )
 
-    -- by a table a port's rank is that of its number
-    by_table : (table : List ℕ) (bound p : ℕ) (x : ModuleNet) → slice_get (step_nets w k) p ≡ Some x → f.place p ≡ p → nat_lt (rank_by table (f.back p)) bound ≡ nat_lt (rank_by table p) bound
-    by_table table bound p x at here = ap (λ n. nat_lt (rank_by table n) bound) (back_at p x at here)
+    -- a port is among them where its number is
+    by_number : (ks : List ℕ) (p : ℕ) (x : ModuleNet) → slice_get (step_nets w k) p ≡ Some x → f.place p ≡ p → is_among ks (f.back p) ≡ is_among ks p
+    by_number ks p x at here = ap (is_among ks) (back_at p x at here)
 
     busy_depends : DependsOnNone m.assigns 5 (0 ∷ 1 ∷ 2 ∷ 4 ∷ [])
-    busy_depends = depends busy_ranks small_busy (busy_ranked old.name w k) 3 5 (0 ∷ 1 ∷ 2 ∷ 4 ∷ []) (by_table busy_ranks 3 5 _ refl at_busy) (
-      by_table busy_ranks 3 0 _ refl at_sel,
-      (by_table busy_ranks 3 1 _ refl at_a, (by_table busy_ranks 3 2 _ refl at_b, (by_table busy_ranks 3 4 _ refl at_adv, tt))),
+    busy_depends = depends busy_nets small_busy (busy_closed old.name w k) 5 (0 ∷ 1 ∷ 2 ∷ 4 ∷ []) (by_number busy_nets 5 _ refl at_busy) (
+      by_number busy_nets 0 _ refl at_sel,
+      (by_number busy_nets 1 _ refl at_a, (by_number busy_nets 2 _ refl at_b, (by_number busy_nets 4 _ refl at_adv, tt))),
     )
 
     value_depends : DependsOnNone m.assigns 6 (4 ∷ [])
-    value_depends = depends value_ranks small_value (value_ranked old.name w k) 2 6 (4 ∷ []) (by_table value_ranks 2 6 _ refl at_y) (by_table value_ranks 2 4 _ refl at_adv, tt)
+    value_depends = depends value_nets small_value (value_closed old.name w k) 6 (4 ∷ []) (by_number value_nets 6 _ refl at_y) (by_number value_nets 4 _ refl at_adv, tt)
 
     -- what a solution of the module gives
     module _ (method : Method) (step : MakesStep old (step_wires w k) method next) (read : ℕ → ℕ) (settled : Settles (nets_of m) m.assigns read) where
@@ -156,25 +196,25 @@ module _ (old last : Draft) (w k : ℕ) (next state : Pair) (count : Wire) (room
       first : SettlesDraft (with_stepper old.name w k) (λ n. read (f.place n))
       first = Settles-before (with_stepper old.name w k) last (λ n. read (f.place n)) all.adds.extends whole
 
-      left : read (f.place 11) ≡ left_of w (read (f.place 7))
-      left = first.holds.1.0 ∙ ap (λ n. if nat_lt (read (f.place 7)) n then 1 else 0) first.holds.0
+      left : read (f.place running_net) ≡ left_of w (read (f.place count_net))
+      left = first.holds.1.0 ∙ ap (λ n. if nat_lt (read (f.place count_net)) n then 1 else 0) first.holds.0
 
-      fits_a : read 1 < 2 ^ w
+      fits_a : (input_of read).a < 2 ^ w
       fits_a = subst (λ n. read n < 2 ^ w) at_a (first.fits 1 w refl)
 
-      fits_b : read 2 < 2 ^ w
+      fits_b : (input_of read).b < 2 ^ w
       fits_b = subst (λ n. read n < 2 ^ w) at_b (first.fits 2 w refl)
 
-      cycle : Cycle w k method (input_of read) (read (f.place 7)) (state_of (λ n. read (f.place n)) (step_wires w k).held) (read 5) (read 6) (read (f.place count.number)) (state_of (λ n. read (f.place n)) state)
+      cycle : Cycle w k method (input_of read) (read (f.place count_net)) (state_of (λ n. read (f.place n)) (step_wires w k).held) (busy_of read) (result_of read) (read (f.place count.number)) (state_of (λ n. read (f.place n)) state)
       cycle = record {
         go = subst (λ n. read n < 2) at_go (first.fits 3 1 refl);
         busy_is = ap read (sym at_busy) ∙ first.holds.1.1.0 ∙ (λ i. bit_and (read (at_go i)) (left i));
-        shown = ap read (sym at_y) ∙ first.holds.1.1.1.0 ∙ ap (λ n. if read n == 1 then read (f.place 8) else read (f.place 9)) at_sel;
+        shown = ap read (sym at_y) ∙ first.holds.1.1.1.0 ∙ ap (λ n. if read n == 1 then read (f.place high_net) else read (f.place low_net)) at_sel;
         count_is = counts (λ n. read (f.place n)) whole
-            ∙ (λ i. if read (at_adv i) == 1 then 0 else (if read (at_go i) == 1 then (if left i == 1 then (read (f.place 7) + 1) % 2 ^ k else read (f.place 7)) else 0));
+            ∙ (λ i. if read (at_adv i) == 1 then 0 else (if read (at_go i) == 1 then (if left i == 1 then (read (f.place count_net) + 1) % 2 ^ k else read (f.place count_net)) else 0));
         held_is = keeps (λ n. read (f.place n)) whole
-            ∙ ap (λ (s : State). if read (f.place 11) == 1 then s else state_of (λ n. read (f.place n)) (step_wires w k).held) (step (λ n. read (f.place n)) (Settles-before old last (λ n. read (f.place n)) makes.adds.extends whole))
-            ∙ (λ i. if left i == 1 then method.step (read (at_a i)) (read (at_b i)) (if read (f.place 7) == 0 then method.start (read (at_a i)) (read (at_b i)) else state_of (λ n. read (f.place n)) (step_wires w k).held)
+            ∙ ap (λ (s : State). if read (f.place running_net) == 1 then s else state_of (λ n. read (f.place n)) (step_wires w k).held) (step (λ n. read (f.place n)) (Settles-before old last (λ n. read (f.place n)) makes.adds.extends whole))
+            ∙ (λ i. if left i == 1 then method.step (read (at_a i)) (read (at_b i)) (if read (f.place count_net) == 0 then method.start (read (at_a i)) (read (at_b i)) else state_of (λ n. read (f.place n)) (step_wires w k).held)
             else state_of (λ n. read (f.place n)) (step_wires w k).held);
       }
 
@@ -190,10 +230,10 @@ module _ (old last : Draft) (w k : ℕ) (next state : Pair) (count : Wire) (room
       latency : latency_at card w - 1 ≡ w
       latency = let e : latency_at card w ≡ w + 1 = ap (λ l. cycles_at l w) late in omega arith
 
-      cycles : (j : ℕ) → j < c → Cycle w k method (input_of (reads j)) (reads j (f.place 7)) (state_of (λ n. reads j (f.place n)) (step_wires w k).held) (reads j 5) (reads j 6) (reads j (f.place count.number)) (state_of (λ n. reads j (f.place n)) state)
+      cycles : (j : ℕ) → j < c → Cycle w k method (input_of (reads j)) (reads j (f.place count_net)) (state_of (λ n. reads j (f.place n)) (step_wires w k).held) (busy_of (reads j)) (result_of (reads j)) (reads j (f.place count.number)) (state_of (λ n. reads j (f.place n)) state)
       cycles j h = cycle method step (reads j) (run.solves j h)
 
-      starts : reads 0 (f.place 7) ≡ 0
+      starts : reads 0 (f.place count_net) ≡ 0
       starts =
           let each = subst (Each (λ (x : Next). reads 0 x.register.number ≡ reset_at (nets_of m) x.register.number)) its_nexts run.starts in
           each.0 ∙ reset_is 7 (register_net (codes "q0") k) refl
@@ -211,13 +251,13 @@ module _ (old last : Draft) (w k : ℕ) (next state : Pair) (count : Wire) (room
 
       shows : (j : ℕ) → j < c → ShowsAge card w (age_at (λ i. input_of (reads i)) j) (reads j)
       shows j h = record {
-        busy = subst (λ n. (reads j 5 ≡ 1) ↔ ((reads j 3 ≡ 1) × (age_at (λ i. input_of (reads i)) j < n))) (sym latency)
-            (busy_shown w k c method room some (λ i. input_of (reads i)) (λ i. reads i (f.place 7)) (λ i. reads i (f.place count.number)) (λ i. reads i 5) (λ i. reads i 6)
+        busy = subst (λ n. (busy_of (reads j) ≡ 1) ↔ (((input_of (reads j)).go ≡ 1) × (age_at (λ i. input_of (reads i)) j < n))) (sym latency)
+            (busy_shown w k c method room some (λ i. input_of (reads i)) (λ i. reads i (f.place count_net)) (λ i. reads i (f.place count.number)) (λ i. busy_of (reads i)) (λ i. result_of (reads i))
             (λ i. state_of (λ n. reads i (f.place n)) (step_wires w k).held) (λ i. state_of (λ n. reads i (f.place n)) state) cycles starts (λ i l. (goes i l).0) states_go held j h);
         value = λ asked old.
-            value_shown w k c method room some (λ i. input_of (reads i)) (λ i. reads i (f.place 7)) (λ i. reads i (f.place count.number)) (λ i. reads i 5) (λ i. reads i 6)
+            value_shown w k c method room some (λ i. input_of (reads i)) (λ i. reads i (f.place count_net)) (λ i. reads i (f.place count.number)) (λ i. busy_of (reads i)) (λ i. result_of (reads i))
             (λ i. state_of (λ n. reads i (f.place n)) (step_wires w k).held) (λ i. state_of (λ n. reads i (f.place n)) state) cycles starts (λ i l. (goes i l).0) states_go held j h (subst (λ n. n ≤ age_at (λ i. input_of (reads i)) j) latency old)
-            ∙ reaches (reads j 0) (reads j 1) (reads j 2) ((proper j h).chosen asked) (fits_a method step (reads j) (run.solves j h)) (fits_b method step (reads j) (run.solves j h));
+            ∙ reaches (input_of (reads j)).sel (input_of (reads j)).a (input_of (reads j)).b ((proper j h).chosen asked) (fits_a method step (reads j) (run.solves j h)) (fits_b method step (reads j) (run.solves j h));
       }
 
     in_cycles : (card : Card) (method : Method) → card.latency ≡ WidthPlusOne → Reaches method card w → MakesStep old (step_wires w k) method next → ComputesInCycles m card w
@@ -235,7 +275,7 @@ module _ (old last : Draft) (w k : ℕ) (next state : Pair) (count : Wire) (room
     unit = λ m rules f. record {
       ports = f.ports ∙ its_ports ∙ (λ i. ports_by (sym late i) (sym select i) w);
       instances = f.instances ∙ ap (map (instance_placed f.place)) all.instances;
-      ordered = ((λ n. rank_by busy_ranks (f.back n)), f.orders (rank_by busy_ranks) (grown_ranked busy_ranks small_busy old.name w k last (busy_ranked old.name w k) all.adds.grows));
+      ordered = ready_are_ordered isolated (ended last w k count state) m kept all.instances all_ready f;
       behaves = subst (λ (l : Latency). Behaves l m card w) (sym late) (in_cycles m rules f card method late reaches step);
     };
   }

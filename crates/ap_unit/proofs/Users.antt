@@ -22,7 +22,7 @@ use Rattle.ap_net.proofs.Lists.{All-both, get_left, some_same}
 use Rattle.ap_net.proofs.Parts.{net_of_width, width_at, All-named}
 use Rattle.ap_net.proofs.Alone.{modules_are_solvable, agree_on_closed_sets, parts_run_alone}
 use Rattle.ap_unit.specs.Ages.{UnitInput, IsHeld, IsProperAt, AreProper, age_after, age_at}
-use Rattle.ap_unit.specs.Units.{IsUnit, ShowsAge, Behaves, ComputesInCycles, ports_by, input_of, in_port}
+use Rattle.ap_unit.specs.Units.{IsUnit, ShowsAge, Behaves, ComputesInCycles, ports_by, input_of, busy_of, result_of, in_port}
 use Rattle.ap_unit.specs.Slow.{IsAskedAt, AskedUnitsShow, PlacedUnitsShow, part_read}
 
 is_true : (b : Bool) (x y : ℕ) → b ≡ true → (if b then x else y) ≡ x
@@ -111,10 +111,10 @@ module _ (m : ModuleText) (card : Card) (w : ℕ) (slow : card.latency ≡ Width
       agree_on_closed_sets m plain none.0 (none.1).closed last (reads j) (changed.1).settles settled
       (λ k net at source is. last_source k net at source (λ e. let clash : none.0 4 ≡ true = ap none.0 (sym e) ∙ is in cc)) n within (none.1).itself
 
-  last_busy : last 5 ≡ reads j 5
+  last_busy : busy_of last ≡ busy_of (reads j)
   last_busy = last_at 5 (0 ∷ 1 ∷ 2 ∷ 4 ∷ []) in_cycles.busy (in_cycles.busy).2.1.1.1.0 (slice_get_within (nets_of m) 5 _ (port_at 5 _ refl))
 
-  last_y : last 6 ≡ reads j 6
+  last_y : result_of last ≡ result_of (reads j)
   last_y = last_at 6 (4 ∷ []) in_cycles.value (in_cycles.value).2.0 (slice_get_within (nets_of m) 6 _ (port_at 6 _ refl))
 
   -- the changed run
@@ -160,21 +160,21 @@ module _ (m : ModuleText) (card : Card) (w : ℕ) (slow : card.latency ≡ Width
 
   -- in the last cycle all but adv is as it was
   abbrev now : UnitInput
-  now = record { sel = reads j 0; a = reads j 1; b = reads j 2; go = reads j 3; adv = 0 }
+  now = record (inputs j) { adv = 0 }
 
   four : (n : ℕ) → n < 4 → n ≢ 4
   four n less e = absurd (omega arith)
 
-  same_sel : reads' j 0 ≡ reads j 0
+  same_sel : (inputs' j).sel ≡ (inputs j).sel
   same_sel = at_last 0 ∙ last_source 0 _ (port_at 0 _ refl) tt (four 0 (omega arith))
 
-  same_a : reads' j 1 ≡ reads j 1
+  same_a : (inputs' j).a ≡ (inputs j).a
   same_a = at_last 1 ∙ last_source 1 _ (port_at 1 _ refl) tt (four 1 (omega arith))
 
-  same_b : reads' j 2 ≡ reads j 2
+  same_b : (inputs' j).b ≡ (inputs j).b
   same_b = at_last 2 ∙ last_source 2 _ (port_at 2 _ refl) tt (four 2 (omega arith))
 
-  same_go : reads' j 3 ≡ reads j 3
+  same_go : (inputs' j).go ≡ (inputs j).go
   same_go = at_last 3 ∙ last_source 3 _ (port_at 3 _ refl) tt (four 3 (omega arith))
 
   same_now : inputs' j ≡ now
@@ -218,15 +218,15 @@ module _ (m : ModuleText) (card : Card) (w : ℕ) (slow : card.latency ≡ Width
   shown : ShowsAge card w (age_at inputs' j) (reads' j)
   shown = in_cycles.runs (j + 1) reads' runs' proper' j (omega arith)
 
-  abbrev Shows : ℕ → ℕ → ℕ → ℕ → ℕ → ℕ → ℕ → Type 0
-  Shows age sel a b go busy y = ((busy ≡ 1 → (go ≡ 1) × (age < latency - 1)) × ((go ≡ 1) × (age < latency - 1) → busy ≡ 1)) × (go ≡ 1 → latency - 1 ≤ age → y ≡ operation_value card w sel a b)
+  abbrev Shows : ℕ → UnitInput → ℕ → ℕ → Type 0
+  Shows age u busy y = ((busy ≡ 1 → (u.go ≡ 1) × (age < latency - 1)) × ((u.go ≡ 1) × (age < latency - 1) → busy ≡ 1)) × (u.go ≡ 1 → latency - 1 ≤ age → y ≡ operation_value card w u.sel u.a u.b)
 
   shows : ShowsAge card w (age_at inputs j) (reads j)
   shows =
-      let h : Shows (age_at inputs' j) (reads' j 0) (reads' j 1) (reads' j 2) (reads' j 3) (reads' j 5) (reads' j 6) = ((shown.busy.0, shown.busy.1), shown.value) in
-      let busy : reads' j 5 ≡ reads j 5 = at_last 5 ∙ last_busy in
-      let y : reads' j 6 ≡ reads j 6 = at_last 6 ∙ last_y in
-      let g : Shows (age_at inputs j) (reads j 0) (reads j 1) (reads j 2) (reads j 3) (reads j 5) (reads j 6) =
+      let h : Shows (age_at inputs' j) (inputs' j) (busy_of (reads' j)) (result_of (reads' j)) = ((shown.busy.0, shown.busy.1), shown.value) in
+      let busy : busy_of (reads' j) ≡ busy_of (reads j) = at_last 5 ∙ last_busy in
+      let y : result_of (reads' j) ≡ result_of (reads j) = at_last 6 ∙ last_y in
+      let g : Shows (age_at inputs j) (inputs j) (busy_of (reads j)) (result_of (reads j)) =
       rw (← same_age j (omega arith), ← same_sel, ← same_a, ← same_b, ← same_go, ← busy, ← y) h in
       record { busy = (g.0.0, g.0.1); value = g.1 }
 

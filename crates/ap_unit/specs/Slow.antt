@@ -22,7 +22,7 @@ use Rattle.ap_net.specs.Responding.{DependsAs}
 use Rattle.ap_unit.specs.declared.slow.SlowInputs.{SlowInputs}
 use Rattle.ap_unit.specs.declared.slow.SlowOutputs.{SlowOutputs}
 use Rattle.ap_unit.specs.Ages.{UnitInput, IsHeld, age_at, AreProper}
-use Rattle.ap_unit.specs.Units.{IsUnit, ShowsAge, input_of, busy_of, result_of}
+use Rattle.ap_unit.specs.Units.{IsUnit, ShowsAge, input_of, busy_of, result_of, slow_port}
 
 -- the nets at its inputs are declared, and wide as the ports are
 pub record AreSlowInputs (nets : List ModuleNet) (i : SlowInputs) : Type 0 where
@@ -55,10 +55,9 @@ pub record SeesUnit (m : ModuleText) (inputs : SlowInputs) (outputs : SlowOutput
 abbrev pub AlwaysSeesUnit : Draft → List ℕ → ℕ → SlowInputs → SlowOutputs → Type 0
 AlwaysSeesUnit d name k inputs outputs = Always d (λ r. (m : ModuleText) → module_named r.modules name ≡ Some m → SeesUnit m inputs outputs r.read (r.parts k))
 
--- the outputs depend on these inputs alone, by the numbers of the ports: busy, the port 5, on go, the port 3, and y, the port 6, on
--- all but adv, the port 4
+-- the outputs depend on these inputs alone, by the numbers of the ports: busy on go, and y on all that come before adv
 abbrev pub slow_needs : ℕ → ℕ → Bool
-slow_needs p q = if p == 5 then q == 3 else (if p == 6 then nat_lt q 4 else true)
+slow_needs p q = if p == slow_port.busy then q == slow_port.go else (if p == slow_port.y then nat_lt q slow_port.adv else true)
 
 -- the net is ready once these are, where the module of this name depends as slow units do
 abbrev pub IsReadyByUnit : List ℕ → Draft → List Wire → Wire → Type 0

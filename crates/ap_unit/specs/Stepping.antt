@@ -9,7 +9,8 @@ use Rattle.ap_net.specs.declared.net.Assign.{Assign}
 use Rattle.ap_net.specs.declared.net.Next.{Next}
 use Rattle.ap_net.specs.Names.{numbered}
 use Rattle.ap_net.specs.Cells.{IsNet}
-use Rattle.ap_net.specs.Draft.{Draft, Makes, SettlesDraft}
+use Rattle.ap_net.specs.Draft.{Draft, SettlesDraft}
+use Rattle.ap_net.specs.Making.{Makes}
 use Rattle.ap_unit.specs.declared.stepper.Pair.{Pair}
 use Rattle.ap_unit.specs.declared.stepper.Ports.{Ports}
 use Rattle.ap_unit.specs.declared.stepper.Stepper.{Stepper}

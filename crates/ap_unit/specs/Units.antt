@@ -27,36 +27,57 @@ ports_by WidthPlusOne s w = in_port (codes "sel") s ∷ in_port (codes "a") w �
 abbrev pub unit_ports : Card → ℕ → List Port
 unit_ports card w = ports_by card.latency (select_width card) w
 
--- Ports have the first numbers of a module's nets. So sel, a and b are the nets 0, 1 and 2; with one cycle y is the net 3; with
--- several, go and adv are the nets 3 and 4, busy is 5, and y is 6.
+-- Ports have the first numbers of a module's nets, in order: those of a unit that takes one cycle, and those of one that takes
+-- several.
+pub record QuickPorts : Type 0 where
+  pub sel : ℕ
+  pub a : ℕ
+  pub b : ℕ
+  pub y : ℕ
+
+abbrev pub quick_port : QuickPorts
+quick_port = record { sel = 0; a = 1; b = 2; y = 3 }
+
+pub record SlowPorts : Type 0 where
+  pub sel : ℕ
+  pub a : ℕ
+  pub b : ℕ
+  pub go : ℕ
+  pub adv : ℕ
+  pub busy : ℕ
+  pub y : ℕ
+
+abbrev pub slow_port : SlowPorts
+slow_port = record { sel = 0; a = 1; b = 2; go = 3; adv = 4; busy = 5; y = 6 }
 
 -- With one cycle: whatever the registers hold, y is in every solution the value of the operation that sel chooses.
 abbrev pub Computes : ModuleText → Card → ℕ → Type 0
-Computes m card w = (read : ℕ → ℕ) → Settles (nets_of m) m.assigns read → read 0 < length card.ops → read 3 ≡ operation_value card w (read 0) (read 1) (read 2)
+Computes m card w = (read : ℕ → ℕ) → Settles (nets_of m) m.assigns read → read quick_port.sel < length card.ops
+    → read quick_port.y ≡ operation_value card w (read quick_port.sel) (read quick_port.a) (read quick_port.b)
 
 -- what a solution gives the unit
 abbrev pub input_of : (ℕ → ℕ) → UnitInput
-input_of read = record { sel = read 0; a = read 1; b = read 2; go = read 3; adv = read 4 }
+input_of read = record { sel = read slow_port.sel; a = read slow_port.a; b = read slow_port.b; go = read slow_port.go; adv = read slow_port.adv }
 
 -- and what it shows: busy and y
 abbrev pub busy_of : (ℕ → ℕ) → ℕ
-busy_of read = read 5
+busy_of read = read slow_port.busy
 
 abbrev pub result_of : (ℕ → ℕ) → ℕ
-result_of read = read 6
+result_of read = read slow_port.y
 
 -- busy is 1 exactly where the unit is asked and isn't done; where it is asked and done, y is the value of the operation
 pub record ShowsAge (card : Card) (w age : ℕ) (read : ℕ → ℕ) : Type 0 where
-  pub busy : (read 5 ≡ 1) ↔ ((read 3 ≡ 1) × (age < latency_at card w - 1))
-  pub value : read 3 ≡ 1 → latency_at card w - 1 ≤ age → read 6 ≡ operation_value card w (read 0) (read 1) (read 2)
+  pub busy : (busy_of read ≡ 1) ↔ (((input_of read).go ≡ 1) × (age < latency_at card w - 1))
+  pub value : (input_of read).go ≡ 1 → latency_at card w - 1 ≤ age → result_of read ≡ operation_value card w (input_of read).sel (input_of read).a (input_of read).b
 
 -- With several cycles: in every run over proper inputs the unit shows its age; busy depends on no input but go, and y doesn't
 -- depend on adv.
 pub record ComputesInCycles (m : ModuleText) (card : Card) (w : ℕ) : Type 0 where
   pub runs : (c : ℕ) (reads : ℕ → ℕ → ℕ) → RunsAlone m c reads → AreProper (length card.ops) (latency_at card w) (λ j. input_of (reads j)) c
       → (j : ℕ) → j < c → ShowsAge card w (age_at (λ i. input_of (reads i)) j) (reads j)
-  pub busy : DependsOnNone m.assigns 5 (0 ∷ 1 ∷ 2 ∷ 4 ∷ [])
-  pub value : DependsOnNone m.assigns 6 (4 ∷ [])
+  pub busy : DependsOnNone m.assigns slow_port.busy (slow_port.sel ∷ slow_port.a ∷ slow_port.b ∷ slow_port.adv ∷ [])
+  pub value : DependsOnNone m.assigns slow_port.y (slow_port.adv ∷ [])
 
 abbrev pub Behaves : Latency → ModuleText → Card → ℕ → Type 0
 Behaves One m card w = Computes m card w

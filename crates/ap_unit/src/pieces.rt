@@ -3,7 +3,8 @@ ghost use Rattle.ap_bits.specs.declared.card.Card.{Card};
 ghost use Rattle.ap_bits.specs.declared.card.Latency.TheVariants.{One};
 ghost use Rattle.ap_bits.specs.Cards.{select_width};
 ghost use Rattle.ap_net.specs.Cells.{IsNet};
-ghost use Rattle.ap_net.specs.Draft.{CanFresh, Makes};
+ghost use Rattle.ap_net.specs.Draft.{CanFresh};
+ghost use Rattle.ap_net.specs.Making.{Makes};
 ghost use Rattle.ap_unit.specs.Built.{IsBlank, IsUnitDraft};
 ghost use Rattle.ap_unit.specs.Named.{NamesPlainly};
 ghost use Rattle.ap_unit.specs.Pieces.{with_inputs, input_wires, HasValue};
@@ -57,5 +58,6 @@ pub fn show_result(out: &mut Builder, inputs: Inputs, y: Wire) -> Result<(), NoM
         → HasValue out.old inputs y card → IsUnitDraft out.new card inputs.a.width) }
 {
     out.show(b"y", y.width, Cell::Copy(y))?;
+    out.rules();
     Ok(())
 }

@@ -8,7 +8,8 @@ ghost use Rattle.ap_bits.specs.declared.card.Card.{Card};
 ghost use Rattle.ap_bits.specs.declared.card.Latency.TheVariants.{WidthPlusOne};
 ghost use Rattle.ap_bits.specs.Cards.{select_width};
 ghost use Rattle.ap_net.specs.Cells.{IsNet};
-ghost use Rattle.ap_net.specs.Draft.{CanFresh, Makes};
+ghost use Rattle.ap_net.specs.Draft.{CanFresh};
+ghost use Rattle.ap_net.specs.Making.{Makes};
 ghost use Rattle.ap_unit.specs.Built.{IsBlank, IsUnitDraft};
 ghost use Rattle.ap_unit.specs.Named.{NamesPlainly};
 ghost use Rattle.ap_unit.specs.Methods.{Method, Reaches};
@@ -318,5 +319,6 @@ pub fn end_steps(out: &mut Builder, unit: Stepper, next: Pair) -> Result<(), NoM
     out.next(unit.count, count)?;
     out.next(unit.held.high, state.high)?;
     out.next(unit.held.low, state.low)?;
+    out.rules();
     Ok(())
 }

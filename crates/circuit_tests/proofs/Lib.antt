@@ -1,3 +1,5 @@
 pub mod Tested
 pub mod Reversed
 pub mod NandValues
+pub mod Counting
+pub mod Smallest

@@ -1,3 +1,5 @@
 pub mod Examples
 pub mod Reverse
 pub mod UnitRows
+pub mod Counter
+pub mod Tiny

@@ -1,11 +1,13 @@
 //! Tests of circuits: worked rows on the definitions of units, and calls of [`ap_net`], [`ap_unit`] and the kinds of units with values
-//! from outside. Two kinds of units stand here that no program has: `reverse`, the example of docs/CONTRIBUTING.md, and `nand`.
+//! from outside. Two kinds of units stand here that no program has: `reverse`, the example of docs/CONTRIBUTING.md, and `nand`. Two
+//! small processors, [`counter`] and [`tiny`], are proved by the laws on nets that are read before they are driven.
 //!
 //! They stand in a crate of their own, so that those crates are proved once and not a second time with their tests.
 #![tactic(auto)]
 
 #[cfg(test)]
 mod alu_tests;
+pub mod counter;
 #[cfg(test)]
 mod div_rows;
 #[cfg(test)]
@@ -24,5 +26,6 @@ mod nand;
 mod net_tests;
 #[cfg(test)]
 mod reverse;
+pub mod tiny;
 #[cfg(test)]
 mod unit_rows;

@@ -6,7 +6,8 @@ ghost use Rattle.ap_bits.specs.declared.card.Widths.TheVariants.{Any};
 ghost use Rattle.ap_bits.specs.declared.card.Latency.TheVariants.{One};
 ghost use Rattle.ap_bits.specs.Operations.{binary_value};
 ghost use Rattle.ap_net.specs.Cells.{IsNet, AreOfOneWidth};
-ghost use Rattle.ap_net.specs.Draft.{CanFresh, Makes, Means};
+ghost use Rattle.ap_net.specs.Draft.{CanFresh, Means};
+ghost use Rattle.ap_net.specs.Making.{Makes};
 
 use ap_bits::{NoMemory, mask};
 use ap_net::builder::Builder;

@@ -1,7 +1,8 @@
 //! Kinds of units named `alu`, of which shelves for the tests are made.
 ghost use Rattle.std.specs.Prelude.{◌≡◌, ℕ, ◌≤◌, IfOk, OnOk};
 ghost use Rattle.ap_net.specs.Cells.{IsNet};
-ghost use Rattle.ap_net.specs.Draft.{CanFresh, Makes, SettlesDraft};
+ghost use Rattle.ap_net.specs.Draft.{CanFresh, SettlesDraft};
+ghost use Rattle.ap_net.specs.Making.{Makes};
 ghost use Rattle.serve_tests.specs.TestCards.{less_and_sum_card, sum_or_less_value};
 
 use ap_bits::{BinOp, NoMemory, binary};

@@ -1,6 +1,7 @@
 use Rattle.std.proofs.Common.{◌≡◌, ℕ, length, map, take}
 use Rattle.std.specs.Prelude.{All}
-use Rattle.ap_net.specs.Draft.{Makes, SettlesDraft}
+use Rattle.ap_net.specs.Draft.{SettlesDraft}
+use Rattle.ap_net.specs.Making.{Makes}
 use Rattle.ap_comb.specs.declared.alu.TheConstants.{OPERATIONS}
 use Rattle.ap_comb.specs.declared.alu.Operation.{Operation}
 use Rattle.ap_comb.specs.Alu.{result_of}

@@ -1,6 +1,8 @@
-use Rattle.std.proofs.Common.{◌≡◌, ℕ, ◌-◌, ◌≤◌}
+use Rattle.std.proofs.Common.{◌≡◌, ℕ, ◌-◌, ◌≤◌, [], ◌∷◌}
 use Rattle.ap_net.specs.Cells.{IsNet}
-use Rattle.ap_net.specs.Draft.{Makes, SettlesDraft}
+use Rattle.ap_net.specs.Draft.{SettlesDraft}
+use Rattle.ap_net.specs.Making.{Makes}
+use Rattle.ap_net.specs.Pending.{Yields}
 use Rattle.ap_bits.specs.Operations.{zeros_above}
 use Rattle.ap_comb.proofs.Runs.{IsRun}
 use Rattle.ap_comb.proofs.leading.running_or.Given as goal
@@ -13,6 +15,7 @@ invariant-loop-reach l = record {
   width : l.run.width ≡ l.x.width;
   value : (read : ℕ → ℕ) → SettlesDraft l.out read → SettlesDraft l.fn.out read × IsRun (l.x.width - zeros_above l.x.width (read l.x.number)) l.reach (read l.run.number);
   makes : Makes l.fn.out l.out;
+  reads : Yields (l.x.number ∷ []) l.fn.out l.out l.run;
 }
 
 abbrev pub decreases-loop-reach : goal.decreases-loop-reach

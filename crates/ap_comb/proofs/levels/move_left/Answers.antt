@@ -1,5 +1,5 @@
-use Rattle.std.proofs.Common.{◌∙◌, ◌≤◌, ◌==◌, arith, rules}
-use Rattle.ap_net.proofs.Laws.{Makes-trans, laws}
+use Rattle.std.proofs.Common.{◌∙◌, ◌≤◌, ◌==◌, arith, rules, ℕ, List, [], ◌∷◌, inl, inr, refl}
+use Rattle.ap_net.proofs.Laws.{Makes-trans, laws, IsFrom-more, Yields-made, Yields-after}
 use Rattle.ap_comb.proofs.MovedTwice.{left_parts}
 use Rattle.ap_comb.proofs.levels.move_left.Goals as goal
 
@@ -19,3 +19,13 @@ lower_bits-requires-clause-x c = let below' = c.in_ok-below.ensures in search (r
 
 pub make-requires-clause-fits : goal.make-requires-clause-fits
 make-requires-clause-fits c = let below' = c.in_ok-below.ensures in let kept' = c.in_ok-kept.ensures in search (rules, laws)
+
+pub returns-clause-reads : goal.returns-clause-reads
+returns-clause-reads c =
+    let from : List ℕ = c.args.x.number ∷ c.args.turn.number ∷ [] in
+    let below = c.in_ok-below.ensures.reads in
+    let kept = c.in_ok-kept.ensures.reads in
+    let moved = c.in_ok-moved.ensures in
+    let second = Yields-after from (c.args.x.number ∷ []) _ _ _ _ below.reads kept (inl (inl refl), tt) in
+    Yields-after from (c.in_ok-kept.kept.number ∷ c.in_ok-below.below.number ∷ []) _ _ _ _ second.reads (Yields-made _ _ _ _ _ moved.reads moved.wire moved.net.0)
+    (second.result, (IsFrom-more from c.args.out.now _ _ _ (kept.reads).extends below.result, tt))

@@ -1,5 +1,5 @@
-use Rattle.std.proofs.Common.{◌∙◌, ◌≤◌, ◌==◌, arith, rules}
-use Rattle.ap_net.proofs.Laws.{Makes-trans, laws}
+use Rattle.std.proofs.Common.{◌∙◌, ◌≤◌, ◌==◌, arith, rules, ℕ, List, [], ◌∷◌, inl, inr, refl}
+use Rattle.ap_net.proofs.Laws.{Makes-trans, laws, IsFrom-more, Reads-refl, Yields-made, Yields-after}
 use Rattle.ap_comb.proofs.MovedTwice.{right_parts}
 use Rattle.ap_comb.proofs.levels.move_right.Goals as goal
 
@@ -19,3 +19,13 @@ upper_bits-requires-clause-x c = let above' = c.in_ok-above.ensures in search (r
 
 pub make-requires-clause-fits : goal.make-requires-clause-fits
 make-requires-clause-fits c = let above' = c.in_ok-above.ensures in let kept' = c.in_ok-kept.ensures in search (rules, laws)
+
+pub returns-clause-reads : goal.returns-clause-reads
+returns-clause-reads c =
+    let from : List ℕ = c.args.x.number ∷ c.args.fill.number ∷ [] in
+    let kept = c.in_ok-kept.ensures.reads in
+    let moved = c.in_ok-moved.ensures in
+    let first = Yields-after from (c.args.fill.number ∷ []) _ _ _ _ (Reads-refl from c.args.out.now) c.in_ok-above.ensures.reads (inl (inr (inl refl)), tt) in
+    let second = Yields-after from (c.args.x.number ∷ []) _ _ _ _ first.reads kept (inl (inl refl), tt) in
+    Yields-after from (c.in_ok-above.above.number ∷ c.in_ok-kept.kept.number ∷ []) _ _ _ _ second.reads (Yields-made _ _ _ _ _ moved.reads moved.wire moved.net.0)
+    (IsFrom-more from c.args.out.now _ _ _ (kept.reads).extends first.result, (second.result, tt))

@@ -1,8 +1,8 @@
-use Rattle.std.proofs.Common.{◌≡◌, ◌+◌, ◌%◌, ◌^◌, ◌<◌, ◌≤◌, refl, sym, ap, ◌∙◌, arith, rules}
+use Rattle.std.proofs.Common.{◌≡◌, ◌+◌, ◌%◌, ◌^◌, ◌<◌, ◌≤◌, refl, sym, ap, ◌∙◌, arith, rules, ℕ, List, [], ◌∷◌, inl, inr}
 use Rattle.std.proofs.Math.Nat.{mod-one}
 use Rattle.std.proofs.lemmas.Nat.{pow_pos}
-use Rattle.ap_net.proofs.Laws.{Makes-refl, Makes-trans, laws}
-use Rattle.ap_comb.specs.Moves.{moved}
+use Rattle.ap_net.proofs.Laws.{Makes-refl, Makes-trans, laws, IsFrom-more, Yields-same, Yields-after, carried}
+use Rattle.ap_comb.specs.Moves.{moved, inlet}
 use Rattle.ap_comb.proofs.MovedTwice.{moved_none}
 use Rattle.ap_comb.proofs.LevelSteps.{level_more, level_within, levels_few, level_places}
 use Rattle.ap_comb.proofs.levels.shift_by_levels.Goals as goal
@@ -26,6 +26,7 @@ loop-i-init c = record {
   width = refl;
   value = λ read s. (s, sym (ap (moved read c.args.way c.args.x.width (read c.args.x.number)) (mod-one (read c.args.by.number)) ∙ moved_none read c.args.way c.args.x.width (read c.args.x.number) (s.fits _ _ c.requires.x.declared)));
   makes = Makes-refl _;
+  reads = Yields-same _ _ _ (inl refl);
 }
 
 pub loop-i-preserved : goal.loop-i-preserved
@@ -45,6 +46,11 @@ loop-i-preserved c =
                 (level_more read c.args.way c.args.x.width (read c.args.x.number) (read c.args.by.number) c.loop-i.i (old.0.fits _ _ c.requires.x.declared) within),
           );
       makes = Makes-trans _ _ _ before.makes (Makes-trans _ _ _ c.in_ok-by.ensures.makes c.in_ok-shifted.ensures.makes);
+      reads =
+          let from : List ℕ = c.args.x.number ∷ (inlet c.args.way).number ∷ c.args.by.number ∷ [] in
+          let by = Yields-after from (c.args.by.number ∷ []) _ _ _ _ (before.reads).reads c.in_ok-by.ensures.reads (inl (inr (inr (inl refl))), tt) in
+          Yields-after from (c.loop-i.shifted.number ∷ (inlet c.args.way).number ∷ c.in_ok-by.by.number ∷ []) _ _ _ _ by.reads c.in_ok-shifted.ensures.reads
+          (IsFrom-more from c.args.out.now _ _ _ c.in_ok-by.ensures.makes.adds.extends (before.reads).result, (inl (inr (inl refl)), (by.result, tt)));
     }
 
 pub returns-clause-value : goal.returns-clause-value
@@ -61,3 +67,8 @@ level-requires-clause-x c = let h = c.loop-i.invariant in let by' = c.in_ok-by.e
 
 pub level-requires-clause-way : goal.level-requires-clause-way
 level-requires-clause-way c = let h = c.loop-i.invariant in let by' = c.in_ok-by.ensures in search (rules, laws)
+
+pub returns-clause-carries : goal.returns-clause-carries
+returns-clause-carries c =
+    let last = c.loop-i.invariant in
+    carried c.args.out.now _ _ (λ read y. y ≡ moved read c.args.way c.args.x.width (read c.args.x.number) (read c.args.by.number % 2 ^ c.args.count)) _ last.net last.width (returns-clause-value c)

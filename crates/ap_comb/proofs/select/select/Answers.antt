@@ -1,13 +1,17 @@
-use Rattle.std.proofs.Common.{◌≡◌, ℕ, ◌+◌, ◌-◌, ◌*◌, ◌/◌, ◌^◌, ◌<◌, ◌≤◌, suc, length, refl, sym, ap, ◌∙◌, arith, Some, ⊎_elim, rules}
+use Rattle.std.proofs.Common.{◌≡◌, ℕ, ◌+◌, ◌-◌, ◌*◌, ◌/◌, ◌^◌, ◌<◌, ◌≤◌, suc, length, refl, sym, ap, ◌∙◌, arith, Some, ⊎_elim, rules, List, [], ◌∷◌, inl, inr, subst}
 use Rattle.std.specs.Prelude.{slice_get, slice_index}
 use Rattle.std.proofs.Math.Nat.{pow-suc}
 use Rattle.std.proofs.lemmas.Bool.{cases_lt}
 use Rattle.std.proofs.lemmas.Nat.{shr-shr}
-use Rattle.std.proofs.lemmas.Option.{slice_get_read}
-use Rattle.ap_net.proofs.Laws.{Makes-refl, Makes-trans, laws}
+use Rattle.std.proofs.lemmas.Option.{slice_get_read, get_or_from_slice_get}
+use Rattle.ap_net.proofs.Laws.{Makes-refl, Makes-trans, laws, IsFrom-more, IsFrom-later, Reads-refl, Reads-joined, Yields-after, among_index, carried}
 use Rattle.std.proofs.lemmas.List.Elements.{All-weaker}
 use Rattle.ap_comb.specs.Choices.{IsOfWidth, values_of}
-use Rattle.ap_comb.proofs.Halves.{value_at, IsOfWidth-Makes}
+use Rattle.ap_comb.proofs.Halves.{value_at, IsOfWidth-Makes, each_number}
+use Rattle.std.specs.List.{AllByRecursion as Each}
+use Rattle.ap_net.specs.declared.cell.Wire.{Wire}
+use Rattle.ap_net.specs.Ready.{numbers}
+use Rattle.ap_net.specs.Pending.{IsFrom}
 use Rattle.ap_comb.proofs.select.select.Goals as goal
 
 -- where more than one is left there is a bit
@@ -33,6 +37,7 @@ loop-sel-init c =
       nets = rw items c.requires.choices;
       value = λ read s. (s, λ lt. let same : read c.args.sel.number / 1 ≡ read c.args.sel.number = omega arith in rw (items, same) (lt, refl));
       makes = Makes-refl _;
+      reads = rw items (record { reads = Reads-refl _ _; results = λ i d lt. inl (inr (among_index c.args.choices.now i d lt)) });
     }
 
 pub loop-sel-preserved : goal.loop-sel-preserved
@@ -58,6 +63,18 @@ loop-sel-preserved c =
                 rw (← next) (rw y.long (omega (arith, old.0)), now.1 here old.0 bit.1 ∙ old.1),
           );
       makes = Makes-trans _ _ _ h.makes (Makes-trans _ _ _ b.makes y.makes);
+      reads =
+          let from : List ℕ = c.args.sel.number ∷ numbers c.args.choices.now in
+          let bit = Yields-after from (c.args.sel.number ∷ []) _ _ _ _ (h.reads).reads b.reads (inl (inl refl), tt) in
+          let level : Each (IsFrom from c.args.out.now c.bit.new.out) (c.in_ok-chosen.chosen.number ∷ numbers c.loop-sel.level.items) = (
+            bit.result,
+            each_number (IsFrom from c.args.out.now c.bit.new.out) c.loop-sel.level.items
+                (All-weaker (λ (x : Wire). IsFrom from c.args.out.now c.loop-sel.out x.number) (λ (x : Wire). IsFrom from c.args.out.now c.bit.new.out x.number) (λ x. IsFrom-more from c.args.out.now _ _ x.number b.makes.adds.extends) _ (h.reads).results),
+          ) in
+          record {
+            reads = Reads-joined from (c.in_ok-chosen.chosen.number ∷ numbers c.loop-sel.level.items) _ _ _ bit.reads (y.reads).reads level;
+            results = λ i d lt. IsFrom-later from (c.in_ok-chosen.chosen.number ∷ numbers c.loop-sel.level.items) c.args.out.now c.bit.new.out c.halved.new.out _ (bit.reads).extends ((y.reads).reads).extends level ((y.reads).results i d lt);
+          };
     }
 
 pub returns-clause-value : goal.returns-clause-value
@@ -79,3 +96,22 @@ pub halved-requires-clause-level : goal.halved-requires-clause-level
 halved-requires-clause-level c =
     let b = c.in_ok-chosen.ensures.makes in
     rw c.deref.ensures.value (All-weaker (IsOfWidth c.loop-sel.out.nets c.args.width) (IsOfWidth c.bit.new.out.nets c.args.width) (λ x. IsOfWidth-Makes _ _ c.args.width x b) _ c.loop-sel.invariant.nets)
+
+pub returns-clause-reads : goal.returns-clause-reads
+returns-clause-reads c =
+    let h = c.loop-sel.invariant in
+    let x : Wire = c.index.result.now in
+    let first : 0 < length c.loop-sel.level.items = omega arith in
+    let at : slice_get c.loop-sel.level.items 0 ≡ Some x = slice_get_read c.loop-sel.level.items (length c.loop-sel.level.items) 0 x refl first c.index.ensures in
+    record {
+      reads = (h.reads).reads;
+      result = subst (λ (w : Wire). IsFrom (c.args.sel.number ∷ numbers c.args.choices.now) c.args.out.now c.loop-sel.out w.number) (get_or_from_slice_get c.loop-sel.level.items 0 x x at) ((h.reads).results 0 x first);
+    }
+
+pub returns-clause-carries : goal.returns-clause-carries
+returns-clause-carries c =
+    let x : Wire = c.index.result.now in
+    let first : 0 < length c.loop-sel.level.items = omega arith in
+    let at : slice_get c.loop-sel.level.items 0 ≡ Some x = slice_get_read c.loop-sel.level.items (length c.loop-sel.level.items) 0 x refl first c.index.ensures in
+    let net : IsOfWidth c.loop-sel.out.nets c.args.width x = subst (IsOfWidth c.loop-sel.out.nets c.args.width) (get_or_from_slice_get c.loop-sel.level.items 0 x x at) (c.loop-sel.invariant.nets 0 x first) in
+    carried c.args.out.now _ _ (λ read y. read c.args.sel.number < length c.args.choices.now → y ≡ slice_index (values_of read c.args.choices.now) (read c.args.sel.number)) _ net.net net.wide (returns-clause-value c)

@@ -1,7 +1,9 @@
-use Rattle.std.proofs.Common.{◌≡◌, ℕ, ◌-◌, ◌/◌, ◌^◌, ◌<◌, ◌≤◌, length}
+use Rattle.std.proofs.Common.{◌≡◌, ℕ, ◌-◌, ◌/◌, ◌^◌, ◌<◌, ◌≤◌, ◌∷◌, length}
 use Rattle.std.specs.Prelude.{All, slice_index}
-use Rattle.ap_net.specs.Draft.{Makes, SettlesDraft}
-use Rattle.ap_comb.specs.Choices.{IsOfWidth, values_of}
+use Rattle.ap_net.specs.Draft.{SettlesDraft}
+use Rattle.ap_net.specs.Making.{Makes}
+use Rattle.ap_net.specs.Ready.{numbers}
+use Rattle.ap_comb.specs.Choices.{IsOfWidth, YieldsEach, values_of}
 use Rattle.ap_comb.proofs.select.select.Given as goal
 
 -- the number without its lowest bits chooses among the nets of the level
@@ -14,6 +16,7 @@ invariant-loop-sel l = record {
   value : (read : ℕ → ℕ) → SettlesDraft l.out read → SettlesDraft l.fn.out read
       × (read l.sel.number < length l.choices → (read l.sel.number / 2 ^ l.place < length l.level.items) × (slice_index (values_of read l.level.items) (read l.sel.number / 2 ^ l.place) ≡ slice_index (values_of read l.choices) (read l.sel.number)));
   makes : Makes l.fn.out l.out;
+  reads : YieldsEach (l.sel.number ∷ numbers l.choices) l.fn.out l.out l.level.items;
 }
 
 abbrev pub decreases-loop-sel : goal.decreases-loop-sel

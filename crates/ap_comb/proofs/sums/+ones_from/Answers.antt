@@ -1,5 +1,5 @@
-use Rattle.std.proofs.Common.{◌≤◌, ◌/◌, ◌∙◌, arith, rules}
-use Rattle.ap_net.proofs.Laws.{IsNet-Makes, Makes-trans, laws}
+use Rattle.std.proofs.Common.{◌≤◌, ◌/◌, ◌∙◌, arith, rules, ℕ, List, [], ◌∷◌, refl, inl}
+use Rattle.ap_net.proofs.Laws.{IsNet-Makes, Makes-trans, laws, IsFrom-more, Yields-made, Yields-after}
 use Rattle.ap_comb.proofs.BitCounts.{halves}
 use Rattle.ap_comb.proofs.sums.+ones_from.Goals as goal
 
@@ -25,3 +25,13 @@ ones_from-requires-2 t c =
 
 pub make-requires-clause-fits : goal.make-requires-clause-fits
 make-requires-clause-fits t c = let lower' = c.in_ok-lower.ensures in let upper' = c.in_ok-upper.ensures in search (rules, laws)
+
+pub returns-clause-reads : goal.returns-clause-reads
+returns-clause-reads t c =
+    let from : List ℕ = c.args.x.number ∷ [] in
+    let lower = c.in_ok-lower.ensures.reads in
+    let upper = c.in_ok-upper.ensures.reads in
+    let sum = c.in_ok-sum.ensures in
+    let second = Yields-after from from _ _ _ _ lower.reads upper (inl (inl refl), tt) in
+    Yields-after from (c.in_ok-lower.lower.number ∷ c.in_ok-upper.upper.number ∷ []) _ _ _ _ second.reads (Yields-made _ _ _ _ _ sum.reads sum.wire sum.net.0)
+    (IsFrom-more from c.args.out.now _ _ _ (upper.reads).extends lower.result, (second.result, tt))

@@ -1,5 +1,5 @@
-use Rattle.std.proofs.Common.{◌/◌, ◌^◌, sym, ◌∙◌}
-use Rattle.ap_net.proofs.Laws.{Makes-trans}
+use Rattle.std.proofs.Common.{◌/◌, ◌^◌, sym, ◌∙◌, ℕ, List, [], ◌∷◌}
+use Rattle.ap_net.proofs.Laws.{Makes-trans, Yields-after}
 use Rattle.ap_comb.proofs.BitCounts.{ones_among-one}
 use Rattle.ap_comb.proofs.sums.wide_bit.Goals as goal
 
@@ -11,3 +11,8 @@ returns-clause-value c = λ read s.
 
 pub returns-clause-makes : goal.returns-clause-makes
 returns-clause-makes c = Makes-trans _ _ _ c.in_ok-narrow.ensures.makes c.in_ok-wide.ensures.makes
+
+pub returns-clause-reads : goal.returns-clause-reads
+returns-clause-reads c =
+    let narrow = c.in_ok-narrow.ensures.reads in
+    Yields-after (c.args.x.number ∷ []) (c.in_ok-narrow.narrow.number ∷ []) _ _ _ _ narrow.reads c.in_ok-wide.ensures.reads (narrow.result, tt)

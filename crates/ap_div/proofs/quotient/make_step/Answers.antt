@@ -1,5 +1,5 @@
-use Rattle.std.proofs.Common.{◌<◌, ◌^◌, subst, sym}
-use Rattle.ap_net.proofs.Laws.{Makes-trans}
+use Rattle.std.proofs.Common.{◌<◌, ◌^◌, ◌∙◌, subst, sym}
+use Rattle.ap_net.proofs.Laws.{IsNet-Makes, Makes-trans}
 use Rattle.ap_unit.specs.Stepping.{IsPair}
 use Rattle.ap_div.proofs.Differences.{made_step}
 use Rattle.ap_div.proofs.quotient.make_step.Goals as goal
@@ -31,3 +31,24 @@ returns-clause-makes c =
     let first = Makes-trans _ _ _ c.in_ok-rest.ensures.makes c.in_ok-less.ensures.makes in
     let last = Makes-trans _ _ _ c.in_ok-high.ensures.makes c.in_ok-low.ensures.makes in
     Makes-trans _ _ _ first (Makes-trans _ _ _ c.in_ok-fits.ensures.makes last)
+
+pub top_or-requires-clause-x : goal.top_or-requires-clause-x
+top_or-requires-clause-x c = IsNet-Makes _ _ _ c.in_ok-less.ensures.makes (IsNet-Makes _ _ _ c.in_ok-rest.ensures.makes c.requires.before.high)
+
+pub make-requires-clause-fits : goal.make-requires-clause-fits
+make-requires-clause-fits c =
+    let rest = c.in_ok-rest.ensures in
+    let less = c.in_ok-less.ensures in
+    let fits = c.in_ok-fits.ensures in (
+      fits.net.0,
+      IsNet-Makes _ _ _ fits.makes less.difference.0,
+      IsNet-Makes _ _ _ fits.makes (IsNet-Makes _ _ _ less.makes rest.net.0),
+      fits.net.1,
+      less.difference.1 ∙ rest.net.1 ∙ c.requires.before.high_width,
+      rest.net.1 ∙ c.requires.before.high_width,
+    )
+
+pub moved_up-requires-clause-x : goal.moved_up-requires-clause-x
+moved_up-requires-clause-x c =
+    let to_less = IsNet-Makes _ _ _ c.in_ok-less.ensures.makes (IsNet-Makes _ _ _ c.in_ok-rest.ensures.makes c.requires.before.low) in
+    IsNet-Makes _ _ _ c.in_ok-high.ensures.makes (IsNet-Makes _ _ _ c.in_ok-fits.ensures.makes to_less)

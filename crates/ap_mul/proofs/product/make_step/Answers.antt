@@ -1,4 +1,4 @@
-use Rattle.ap_net.proofs.Laws.{Makes-trans}
+use Rattle.ap_net.proofs.Laws.{IsNet-Makes, Makes-trans}
 use Rattle.ap_mul.proofs.Carries.{made_step}
 use Rattle.ap_mul.proofs.product.make_step.Goals as goal
 
@@ -22,3 +22,8 @@ returns-clause-makes c =
     let sums = Makes-trans _ _ _ c.in_ok-addend.ensures.makes c.in_ok-total.ensures.makes in
     let moves = Makes-trans _ _ _ c.in_ok-high.ensures.makes c.in_ok-low.ensures.makes in
     Makes-trans _ _ _ sums (Makes-trans _ _ _ c.in_ok-lowest.ensures.makes moves)
+
+pub moved_down-requires-2-clause-x : goal.moved_down-requires-2-clause-x
+moved_down-requires-2-clause-x c =
+    let to_sum = IsNet-Makes _ _ _ c.in_ok-total.ensures.makes (IsNet-Makes _ _ _ c.in_ok-addend.ensures.makes c.requires.before.low) in
+    IsNet-Makes _ _ _ c.in_ok-high.ensures.makes (IsNet-Makes _ _ _ c.in_ok-lowest.ensures.makes to_sum)

@@ -2,7 +2,8 @@ use Rattle.std.proofs.Common.{[], ◌∷◌, refl, subst, arith}
 use Rattle.std.specs.Prelude.{codes}
 use Rattle.ap_net.specs.declared.net.Instance.{Instance}
 use Rattle.ap_net.specs.Cells.{IsNet}
-use Rattle.ap_net.specs.Draft.{Adds, Makes, SettlesDraft, names_of}
+use Rattle.ap_net.specs.Draft.{Adds, SettlesDraft, names_of}
+use Rattle.ap_net.specs.Making.{Makes}
 use Rattle.ap_net.specs.Placing.{Places}
 use Rattle.ap_net.proofs.Laws.{Adds-trans, Makes-trans, IsNet-Makes, IsNet-Adds, IsNew-is_new, IsNotNumbered-other, Places-Makes, Places-trans, SettlesOpen-before}
 use Rattle.ap_top.specs.Base.{base, wire}

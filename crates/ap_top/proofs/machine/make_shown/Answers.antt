@@ -43,7 +43,8 @@ returns-clause-shown c =
       is_placed = circuit.is_placed;
       instances = c.in_ok-show-2.ensures.instances ∙ c.in_ok-show.ensures.instances ∙ circuit.places.instances;
       adds = Adds-trans _ _ _ circuit.places.adds adds;
-      closes = Closes-trans _ _ _ circuit.places.closes (Closes-trans _ _ _ c.in_ok-show.ensures.closes c.in_ok-show-2.ensures.closes);
+      closes = Closes-trans _ _ _ circuit.places.adds adds circuit.places.closes
+          (Closes-trans _ _ _ c.in_ok-show.ensures.adds c.in_ok-show-2.ensures.adds c.in_ok-show.ensures.closes c.in_ok-show-2.ensures.closes);
       next_address = (IsNet-Adds _ _ _ adds circuit.next_address.0, circuit.next_address.1);
       written = (IsNet-Adds _ _ _ adds circuit.written.0, circuit.written.1);
       one = (IsNet-Adds _ _ _ adds circuit.one.0, circuit.one.1);

@@ -15,10 +15,10 @@ pub returns-clause-unit : goal.returns-clause-unit
 returns-clause-unit c = λ card one select value.
     unit_of c.args.out.now c.show.new.self c.args.inputs.sel.width c.args.inputs.a.width c.args.y c.in_ok-show.field-0 c.requires.made
     (rw (← c.requires.same) c.in_ok-show.ensures.nets) c.in_ok-show.ensures.adds c.in_ok-show.ensures.closes c.in_ok-show.ensures.instances
-    (rw (← c.requires.same) c.in_ok-show.ensures.there) c.in_ok-show.ensures.value card one select (subst (λ i. HasValue c.args.out.now i c.args.y card) c.requires.inputs value)
+    (rw (← c.requires.same) c.in_ok-show.ensures.there) c.in_ok-show.ensures.value c.rules.ensures card one select (subst (λ i. HasValue c.args.out.now i c.args.y card) c.requires.inputs value)
 
 pub returns-clause-names : goal.returns-clause-names
 returns-clause-names c =
     unit_names c.args.out.now c.show.new.self c.args.inputs.sel.width c.args.inputs.a.width c.args.y c.in_ok-show.field-0 c.requires.made
     (rw (← c.requires.same) c.in_ok-show.ensures.nets) c.in_ok-show.ensures.adds c.in_ok-show.ensures.closes c.in_ok-show.ensures.instances
-    (rw (← c.requires.same) c.in_ok-show.ensures.there) c.in_ok-show.ensures.value
+    (rw (← c.requires.same) c.in_ok-show.ensures.there) c.in_ok-show.ensures.value c.rules.ensures

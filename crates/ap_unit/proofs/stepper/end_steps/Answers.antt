@@ -34,4 +34,4 @@ returns-clause-unit c =
     let is = three_nexts c.args.out.now c.kept_state.new.out c.next.new.self c.next-2.new.self c.next-3.new.self c.args.unit c.in_ok-count.count c.in_ok-state.state
     c.requires.unit makes c.in_ok-next.ensures.ok c.in_ok-next-2.ensures.ok c.in_ok-next-3.ensures.ok in
     ended_unit c.args.out.now c.kept_state.new.out c.next-3.new.self c.args.unit c.args.next c.in_ok-state.state c.in_ok-count.count c.requires.unit makes
-    (λ read s. (c.in_ok-count.ensures.value read (c.in_ok-state.ensures.value read s).0).1) (λ read s. (c.in_ok-state.ensures.value read s).1) is
+    (λ read s. (c.in_ok-count.ensures.value read (c.in_ok-state.ensures.value read s).0).1) (λ read s. (c.in_ok-state.ensures.value read s).1) is c.rules.ensures

@@ -4,7 +4,8 @@ use Rattle.ap_net.specs.Draft.{wire_count}
 use Rattle.ap_net.proofs.Wired.{IsNet-end, CellFits-more}
 use Rattle.ap_net.proofs.LateSteps.{IsLate-net, Reads-made}
 use Rattle.ap_net.proofs.Connected.{CanFresh-fresh}
-use Rattle.ap_net.proofs.Drafts.{Adds-made, Closes-made, IsNew-made, ports_among-wire, Settles-made}
+use Rattle.ap_net.proofs.Drafts.{Adds-made, IsNew-made, ports_among-wire, Settles-made}
+use Rattle.ap_net.proofs.Making.{Closes-made}
 use Rattle.ap_net.proofs.builder.Builder.make.Goals as goal
 
 pub fresh-requires-clause-name : goal.fresh-requires-clause-name
@@ -30,14 +31,12 @@ returns-clause-value c = rw (c.in_ok-cell.ensures.ok, c.in_ok-to.ensures.ok, c.i
 
 pub returns-clause-makes : goal.returns-clause-makes
 returns-clause-makes c =
-    let connected : IsConnected c.args.self.now.nets c.args.self.now.assigns c.args.self.now.instances = rw (← c.self.view_is) c.self.invariant.connected in
-    let wired : IsWired c.args.self.now.nets c.args.self.now.assigns c.args.self.now.nexts = rw (← c.self.view_is) c.self.invariant.wired in
     let count : wire_count c.args.self.now.nets ≡ c.self.inside.wires = rw (← c.self.view_is) (sym c.self.invariant.wires) in
     let small : wire_count c.args.self.now.nets < 2 ^ 64 = omega arith in
     rw (c.in_ok-cell.ensures.ok, c.in_ok-to.ensures.ok, c.in_ok-to.ensures.wire) (record {
-      adds = Adds-made c.args.self.now _ c.args.cell wired connected c.requires.fits;
+      adds = Adds-made c.args.self.now _ c.args.cell;
       instances = refl;
-      closes = Closes-made c.args.self.now _ c.args.cell (λ s. s);
+      closes = Closes-made c.args.self.now _ c.args.cell (λ s. s) c.requires.fits;
       fresh = CanFresh-fresh c.args.self.now.instances c.args.self.now.nets _ refl refl small;
       names = λ name other h. IsNew-made c.args.self.now.instances c.args.self.now.nets _ name (λ e. other _ small (sym e)) h;
       ports = ports_among-wire c.args.self.now.nets _ _;
