@@ -8,10 +8,10 @@ ghost use Rattle.ap_desc.specs.declared.design.Act.TheVariants as act;
 ghost use Rattle.ap_enc.specs.Examples.{fifth_instr, four_instrs, immediate_fields, nop_design, plain_instr, words_design};
 ghost use Rattle.ap_enc.specs.Words.{operands_at};
 
-use ap_enc::{FieldRange, encode, find, judge};
 use ap_bits::{Items, Name, NoMemory};
 use ap_desc::design::{Act, Design, Field, Format, Instr, Micro};
 use ap_desc::{Fault, Refusal};
+use ap_enc::{FieldRange, encode, find, judge};
 use std::alloc::Global;
 use std::test::Fail;
 

@@ -4,8 +4,8 @@ ghost use Rattle.ap_text.specs.Lines.{lines_of};
 ghost use Rattle.std.specs.Fmt.{decimal};
 ghost use Rattle.ap_text.specs.Numbers.{hexadecimal, spelled_value};
 
-use ap_text::{NumberFault, Span, lines, number, put_dec, put_hex};
 use ap_bits::NoMemory;
+use ap_text::{NumberFault, Span, lines, number, put_dec, put_hex};
 use std::alloc::Global;
 use std::process::Abort;
 use std::test::Fail;

@@ -5,9 +5,9 @@ ghost use Rattle.ap_desc.specs.Clean.{IsClean};
 ghost use Rattle.ap_desc.specs.Examples.{adder_design, adder_fields, adder_instr, adder_micros, adder_nop};
 ghost use Rattle.ap_desc.specs.Sound.{IsSound};
 
-use ap_dist::{dist, out};
 use ap_bits::{Items, Name, NoMemory};
 use ap_desc::design::{Act, Arg, Design, Field, File, Format, Instr, Micro, Unit};
+use ap_dist::{dist, out};
 use std::alloc::Global;
 use std::test::Fail;
 
