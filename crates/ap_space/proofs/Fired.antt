@@ -54,11 +54,11 @@ none_any t xs none = each_as (λ x. t x ≡ true → list_any t xs ≡ true) (λ
 -- the first of what some elements give comes from one of them
 first_given : {X Y : Type 0} (g : X → Option Y) (P : X → Type 0) (G : Type 0) (y : Y) → ((x : X) → P x → g x ≡ Some y → G) → (xs : List X) → Each P xs → slice_get (filter_map g xs) 0 ≡ Some y → G
 first_given g P G y gives [] each e = absurd cc
-first_given {X} {Y} g P G y gives (x ∷ xs) each e = by_one (g x) refl e
+first_given {X} {Y} g P G y gives (x ∷ xs) each e = by_one (g x) refl e (λ f. first_given g P G y gives xs each.1 f)
   where
-    by_one : (o : Option Y) → g x ≡ o → slice_get (cons_option o (filter_map g xs)) 0 ≡ Some y → G
-    by_one None is e = first_given g P G y gives xs each.1 e
-    by_one (Some z) is e = gives x each.0 (is ∙ e)
+    by_one : (o : Option Y) → g x ≡ o → slice_get (cons_option o (filter_map g xs)) 0 ≡ Some y → (slice_get (filter_map g xs) 0 ≡ Some y → G) → G
+    by_one None is e later = later e
+    by_one (Some z) is e later = gives x each.0 (is ∙ e)
 
 none_given : {X Y : Type 0} (g : X → Option Y) (xs : List X) → Each (λ x. g x ≡ None) xs → filter_map g xs ≡ []
 none_given g [] none = refl

@@ -2,7 +2,7 @@
 -- its landing.
 use Rattle.std.proofs.Common.{◌≡◌, ℕ, zero, suc, ◌+◌, ◌-◌, ◌≤◌, ◌<◌, ◌%◌, Bool, true, false, ◌⊎◌, inl, inr, refl, sym, ap, ◌∙◌, subst, arith}
 use Rattle.std.proofs.lemmas.Bool.{cases_Bool, cases_lt, cases_order, both_ways}
-use Rattle.std.proofs.Math.Nat.{add-mod-mod}
+use Rattle.std.proofs.Math.Nat.{add-mod-mod, mod-eq_of_lt}
 use Rattle.ap_space.proofs.Tracks.{Fetches, Frame, IsFrame, IsHold, IsTrack, IsTurn, Kind, Takes, Track, Waits}
 use Rattle.ap_space.proofs.Tracks.Kind.{fetches, takes, waits}
 
@@ -157,7 +157,7 @@ module _ (frame : Frame) (is_frame : IsFrame frame) (spacing : Spacing) (is_spac
       across i lt in_flight = by_order (cases_order i t)
         where
           small : (p : ℕ) → p < frame.places → (p + 0) % frame.places ≡ p
-          small p h = let e : p + 0 ≡ p = omega arith in omega arith
+          small p h = let e : p + 0 ≡ p = omega arith in ap (λ x. x % frame.places) e ∙ mod-eq_of_lt h
 
           by_gap : i < t → Gap frame spacing old i t → spacing.reach (old.place i) ≤ old.stage i + 1 + spacing.drain
           by_gap less (straight d sum at) =
@@ -200,9 +200,8 @@ module _ (frame : Frame) (is_frame : IsFrame frame) (spacing : Spacing) (is_spac
           let up = moved taken.free i lt in_flight in
           let wide = across i lt in_flight in
           let same : spacing.reach (new.place i) ≡ spacing.reach (old.place i) = ap spacing.reach (turn.places i lt) in
-          let fits = taken.fits in
           let sum : target + 0 ≡ target = omega arith in
-          let at : target ≡ (target + 0) % frame.places = omega arith in
+          let at : target ≡ (target + 0) % frame.places = sym (ap (λ x. x % frame.places) sum ∙ mod-eq_of_lt taken.fits) in
           broken target 0 (lands t target taken) (taken.place ∙ at) (omega arith)
 
     gap_next : (i : ℕ) → i < new.next → new.stage i < frame.stages → Gap frame spacing new i new.next

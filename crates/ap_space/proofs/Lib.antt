@@ -4,3 +4,12 @@ pub mod Paths
 pub mod Lists
 pub mod Parts
 pub mod Fired
+pub mod Flights
+pub mod Turns
+pub mod Tracked
+pub mod Stores
+pub mod Locals
+pub mod SameFire
+pub mod Touched
+pub mod Runs
+pub mod Passed

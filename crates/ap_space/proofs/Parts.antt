@@ -5,7 +5,6 @@ use Rattle.std.specs.List.{AllByRecursion as Each, range_with_len}
 use Rattle.ap_bits.specs.declared.card.Card.{Card}
 use Rattle.ap_desc.specs.declared.design.Design.{Design}
 use Rattle.ap_image.specs.declared.image.Image.{Image}
-use Rattle.ap_model.proofs.PortLists.{range_more}
 use Rattle.ap_model.specs.declared.sequence.Pending.{Pending}
 use Rattle.ap_model.specs.declared.sequence.Progress.{Progress}
 use Rattle.ap_model.specs.declared.state.Entry.{Entry}
@@ -19,6 +18,13 @@ use Rattle.ap_model.specs.Landings.{taken_by}
 use Rattle.ap_model.specs.Sequence.{Partway, after_instruction, next_instruction, pc_after, pending_after, sample_input, sequential, sequential_start, through_stage, whole_instruction}
 use Rattle.ap_model.specs.States.{start_storages}
 use Rattle.ap_space.proofs.Lists.{EachPair, each_always, each_append, each_as, each_map, pair_always, pair_append}
+
+range_more : (a n : ℕ) → range_with_len a (n + 1) ≡ range_with_len a n ++ (a + n) ∷ []
+range_more a zero = ap (λ k. k ∷ []) (omega arith)
+range_more a (suc n) =
+    let more : suc n + 1 ≡ suc (n + 1) = omega arith in
+    let further : a + 1 + n ≡ a + suc n = omega arith in
+    ap (range_with_len a) more ∙ ap (λ rest. a ∷ rest) (range_more (a + 1) n ∙ ap (λ k. range_with_len (a + 1) n ++ k ∷ []) further)
 
 -- a fold over the stages is one stage after another
 fold_stages : {P : Type 0} (step : P → ℕ → P) (run : ℕ → P) → ((s : ℕ) → run (suc s) ≡ step (run s) (suc s)) → (n : ℕ) → fold step (run 0) (range_with_len 1 n) ≡ run n
@@ -45,7 +51,7 @@ pub after_stages : Design → List Card → (ℕ → ℕ → ℕ) → ℕ → �
 after_stages design cards input number place word storages zero = record { storages = storages; locals = []; target = None; log = [] }
 after_stages design cards input number place word storages (suc s) =
     let part = after_stages design cards input number place word storages s in
-    through_stage (suc s) number part (stage_effect design cards input place word (suc s) part)
+    through_stage number (suc s) part (stage_effect design cards input place word (suc s) part)
 
 -- entries of two pairs in the order of one at a time
 abbrev pub IsLater : Entry → Entry → Type 0
@@ -69,7 +75,7 @@ module _ (design : Design) (cards : List Card) (image : Image) (samples : List S
   unfolding part_of after_stages
   part_none i = refl
 
-  pub part_more : (i s : ℕ) → part_of i (suc s) ≡ through_stage (suc s) i (part_of i s) (effect_of i s)
+  pub part_more : (i s : ℕ) → part_of i (suc s) ≡ through_stage i (suc s) (part_of i s) (effect_of i s)
   unfolding part_of after_stages effect_of
   part_more i s = refl
 
@@ -87,7 +93,7 @@ module _ (design : Design) (cards : List Card) (image : Image) (samples : List S
   unfolding next_instruction whole_instruction part_of after_stages
   whole i =
       ap (λ n. whole_instruction design cards (sample_input samples n) n (at_number i).pc (word_of i) (at_number i).storages) (numbered i)
-      ∙ fold_stages (λ (part : Partway) stage. through_stage stage i part (fire design cards stage (at_number i).pc (word_of i) part.locals part.storages (sample_input samples i)))
+      ∙ fold_stages (λ (part : Partway) stage. through_stage i stage part (fire design cards stage (at_number i).pc (word_of i) part.locals part.storages (sample_input samples i)))
       (after_stages design cards (sample_input samples i) i (at_number i).pc (word_of i) (at_number i).storages) (λ s. refl) (design.stages - 1)
 
   -- the state after one more instruction

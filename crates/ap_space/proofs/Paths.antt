@@ -74,7 +74,6 @@ module _ (design : Design) (transfers : ℕ → Bool)
       again : (q : Pending) → pending (suc i) ≡ Some q → q ≡ p
       again q f = some_same q p (sym f ∙ e)
 
-      by_both : (o : Option ℕ) (q : Option Pending) → target i ≡ o → pending i ≡ q → Stands i → IsSlot (suc i) p
       -- it has just been taken
       fresh : (n : Pending) → n.left ≡ design.slots → target i ≡ Some n.target
           → ((design.slots ≡ 0) × (pc (suc i) ≡ n.target) × (pending (suc i) ≡ None)) ⊎ ((1 ≤ design.slots) × (pc (suc i) ≡ (pc i + 1) % 2 ^ design.address) × (pending (suc i) ≡ Some n)) → IsSlot (suc i) p

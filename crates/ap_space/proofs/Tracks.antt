@@ -2,7 +2,7 @@
 -- slots of a transfer follow it stage by stage.
 use Rattle.std.proofs.Common.{◌≡◌, ℕ, zero, suc, ◌+◌, ◌-◌, ◌≤◌, ◌<◌, ◌%◌, Bool, true, false, ◌⊎◌, inl, inr, refl, sym, ap, ◌∙◌, subst, arith}
 use Rattle.std.proofs.lemmas.Bool.{cases_Bool, cases_lt, cases_order, both_ways}
-use Rattle.std.proofs.Math.Nat.{add-mod-mod, mod-mod}
+use Rattle.std.proofs.Math.Nat.{add-mod-mod, mod-eq_of_lt}
 
 -- how many words were fetched and not killed; the stage that each has come to, 0 for one that isn't fetched yet and the number of stages
 -- for one that has left; and the place of each, the one that is fetched next included
@@ -336,7 +336,7 @@ module _ (frame : Frame) (is_frame : IsFrame frame) (hold : ℕ → Bool) (old n
                 last_place (omega arith) (ap old.place (sym same) ∙ (let e : old.place t + old.stage t ≡ old.place t = omega arith in small (old.place t) (old.place t + old.stage t) e fits)) here
               where
                 small : (p q : ℕ) → q ≡ p → p < frame.places → p ≡ q % frame.places
-                small p q e h = omega arith
+                small p q e h = sym (ap (λ x. x % frame.places) e ∙ mod-eq_of_lt h)
 
             by_case : (j < suc (old.stage t)) ⊎ (suc (old.stage t) ≤ j) → Follows t j
             by_case (inl h) =
@@ -366,3 +366,12 @@ module _ (frame : Frame) (is_frame : IsFrame frame) (hold : ℕ → Bool) (old n
     within = turn_within;
     slots = turn_slots;
   }
+
+-- no number falls back
+pub stage_grows : (frame : Frame) (hold : ℕ → Bool) (old new : Track) → IsTurn frame hold old new → (i : ℕ) → i < new.next → old.stage i ≤ new.stage i
+stage_grows frame hold old new turn i less = by_case (cases_lt (old.stage i) frame.stages) (cases_Bool (hold (old.stage i)))
+  where
+    by_case : (old.stage i < frame.stages) ⊎ (frame.stages ≤ old.stage i) → (hold (old.stage i) ≡ true) ⊎ (hold (old.stage i) ≡ false) → old.stage i ≤ new.stage i
+    by_case (inr h) other = let e = turn.gone i less h in omega arith
+    by_case (inl h) (inl g) = let e = turn.stays i less h g in omega arith
+    by_case (inl h) (inr g) = let e = turn.moves i less h g in omega arith
