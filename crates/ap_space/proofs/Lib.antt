@@ -13,3 +13,4 @@ pub mod SameFire
 pub mod Touched
 pub mod Runs
 pub mod Passed
+pub mod Sampled

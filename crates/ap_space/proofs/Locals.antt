@@ -127,7 +127,7 @@ module _ (design : Design) (cards : List Card) (word place : ℕ) (instr : Instr
             ap (slice_index (locals ++ u ∷ [])) last ∙ at_end locals u ∙ same
 
         by_value : (o : Option ℕ) → act_value sight (arg_value sight locals) m.line m.act ≡ o → HasConsts (locals ++ option_to_list o)
-        by_value None e = subst HasConsts (sym (append-nil locals)) so_far.consts
+        by_value None e i v less const = (subst HasConsts (sym (append-nil locals)) so_far.consts) i v less const
         by_value (Some u) e i v less const = by_place (cases_lt i (length locals))
           where
             by_place : (i < length locals) ⊎ (length locals ≤ i) → slice_index (locals ++ u ∷ []) i ≡ v
@@ -148,11 +148,12 @@ module _ (design : Design) (cards : List Card) (word place : ℕ) (instr : Instr
   pub so_far_all : (sight : Sight) (stage : ℕ) (rest done : List Micro) (locals : List ℕ) → instr.micros ≡ done ++ rest → IsSoFar stage done locals → IsSoFar stage instr.micros (locals_after sight locals (within stage rest))
   unfolding locals_after
   so_far_all sight stage [] done locals whole so_far = subst (λ ms. IsSoFar stage ms locals) (sym (append-nil done) ∙ sym whole) so_far
-  so_far_all sight stage (m ∷ rest) done locals whole so_far = by_stage (m.stage == stage) refl
+  so_far_all sight stage (m ∷ rest) done locals whole so_far = by_stage (m.stage == stage) refl (λ next far. so_far_all sight stage rest (done ++ m ∷ []) next (one_more stage done m rest whole) far)
     where
-      by_stage : (b : Bool) → (m.stage == stage) ≡ b → IsSoFar stage instr.micros (locals_after sight locals (cond b (m ∷ within stage rest) (within stage rest)))
-      by_stage true e = so_far_all sight stage rest (done ++ m ∷ []) (locals ++ option_to_list (act_value sight (arg_value sight locals) m.line m.act)) (one_more stage done m rest whole) (line_made stage done m rest whole sight locals (eqb-true m.stage stage e) so_far)
-      by_stage false e = so_far_all sight stage rest (done ++ m ∷ []) locals (one_more stage done m rest whole) (line_past stage done m rest whole locals e so_far)
+      by_stage : (b : Bool) → (m.stage == stage) ≡ b → ((next : List ℕ) → IsSoFar stage (done ++ m ∷ []) next → IsSoFar stage instr.micros (locals_after sight next (within stage rest)))
+          → IsSoFar stage instr.micros (locals_after sight locals (cond b (m ∷ within stage rest) (within stage rest)))
+      by_stage true e later = later (locals ++ option_to_list (act_value sight (arg_value sight locals) m.line m.act)) (line_made stage done m rest whole sight locals (eqb-true m.stage stage e) so_far)
+      by_stage false e later = later locals (line_past stage done m rest whole locals e so_far)
 
   -- an index that the word fixes is the one that the line sees
   pub index_right : (storages : Storages) (input : ℕ → ℕ → ℕ) (locals : List ℕ) → HasConsts locals → (a : Arg) (i : ℕ) → IsArg (length locals) (fields_of design instr) a → index_of design instr (Some word) a ≡ Some i → arg_value (sight_on storages input) locals a ≡ i

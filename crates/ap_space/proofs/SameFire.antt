@@ -104,22 +104,29 @@ module _ (design : Design) (cards : List Card) (word place stage : ℕ) (instr :
   locals_same : (rest done : List Micro) (locals : List ℕ) → instr.micros ≡ done ++ rest → SoFar done locals → locals_after on_s locals (within stage rest) ≡ locals_after on_t locals (within stage rest)
   unfolding locals_after
   locals_same [] done locals whole so_far = refl
-  locals_same (m ∷ rest) done locals whole so_far = by_stage (m.stage == stage) refl
+  locals_same (m ∷ rest) done locals whole so_far = by_stage (m.stage == stage) refl (λ next far. locals_same rest (done ++ m ∷ []) next (one_more design cards word place instr good stage done m rest whole) far)
     where
-      by_stage : (b : Bool) → (m.stage == stage) ≡ b → locals_after on_s locals (cond b (m ∷ within stage rest) (within stage rest)) ≡ locals_after on_t locals (cond b (m ∷ within stage rest) (within stage rest))
-      by_stage true e =
+      by_stage : (b : Bool) → (m.stage == stage) ≡ b → ((next : List ℕ) → SoFar (done ++ m ∷ []) next → locals_after on_s next (within stage rest) ≡ locals_after on_t next (within stage rest))
+          → locals_after on_s locals (cond b (m ∷ within stage rest) (within stage rest)) ≡ locals_after on_t locals (cond b (m ∷ within stage rest) (within stage rest))
+      by_stage true e later =
           let here = eqb-true m.stage stage e in
           let made = act_value on_s (arg_value on_s locals) m.line m.act in
-          locals_same rest (done ++ m ∷ []) (locals ++ option_to_list made) (one_more design cards word place instr good stage done m rest whole) (line_made design cards word place instr good stage done m rest whole on_s locals here so_far)
+          later (locals ++ option_to_list made) (line_made design cards word place instr good stage done m rest whole on_s locals here so_far)
           ∙ ap (λ o. locals_after on_t (locals ++ option_to_list o) (within stage rest)) (line_same done m rest whole here locals so_far m.act refl)
-      by_stage false e = locals_same rest (done ++ m ∷ []) locals (one_more design cards word place instr good stage done m rest whole) (line_past design cards word place instr good stage done m rest whole locals e so_far)
+      by_stage false e later = later locals (line_past design cards word place instr good stage done m rest whole locals e so_far)
 
   -- so are the samples
+  abbrev read_s : Micro → ℕ → InputRead
+  read_s m p = record { line = m.line; value = in_s m.line p }
+
+  abbrev read_t : Micro → ℕ → InputRead
+  read_t m p = record { line = m.line; value = in_t m.line p }
+
   reads_same : (rest done : List Micro) → instr.micros ≡ done ++ rest → filter_map (read_of in_s) (within stage rest) ≡ filter_map (read_of in_t) (within stage rest)
   reads_same [] done whole = refl
   reads_same (m ∷ rest) done whole = by_stage (m.stage == stage) refl (reads_same rest (done ++ m ∷ []) (one_more design cards word place instr good stage done m rest whole))
     where
-      one : m.stage ≡ stage → (o : Option ℕ) → input_of m.act ≡ o → option_map {Y = InputRead} (λ p. record { line = m.line; value = in_s m.line p }) o ≡ option_map (λ p. record { line = m.line; value = in_t m.line p }) o
+      one : m.stage ≡ stage → (o : Option ℕ) → input_of m.act ≡ o → option_map (read_s m) o ≡ option_map (read_t m) o
       one here None e = refl
       one here (Some p) e = let same = inputs m.line p (record { micro = m; earlier = done; rest = rest; whole = whole; in_stage = here; at_line = refl; reads_it = e }) in λ i. Some (record { line = m.line; value = same i })
 
