@@ -14,3 +14,8 @@ pub mod Touched
 pub mod Runs
 pub mod Passed
 pub mod Sampled
+pub mod SampleRuns
+pub mod Logged
+pub mod Spacings
+pub mod Futures
+pub mod Partner

@@ -19,7 +19,7 @@ module _ (design : Design) (transfers : ℕ → Bool)
     (pc : ℕ → ℕ) (pending : ℕ → Option Pending) (target : ℕ → Option ℕ)
     (goes : (i : ℕ) → pc (suc i) ≡ (pc_after design (pc i) (pending_after design (target i) (pending i))).0)
     (waits : (i : ℕ) → pending (suc i) ≡ (pc_after design (pc i) (pending_after design (target i) (pending i))).1)
-    (transfer : (i to : ℕ) → target i ≡ Some to → transfers (pc i) ≡ true)
+    (limit : ℕ) (transfer : (i to : ℕ) → i ≤ limit → target i ≡ Some to → transfers (pc i) ≡ true)
     (none_first : pending 0 ≡ None) where
   -- of an instruction before which a transfer is on its way
   record IsSlot (i : ℕ) (p : Pending) : Type 0 where
@@ -39,8 +39,8 @@ module _ (design : Design) (transfers : ℕ → Bool)
       ap (λ x. x % 2 ^ design.address) turned ∙ add-mod-mod 1 (p + d) (2 ^ design.address) ∙ ap (λ x. x % 2 ^ design.address) sum
 
   -- a slot of a transfer that was taken takes none
-  slot_takes_none : (i : ℕ) (p : Pending) → IsSlot i p → target i ≡ None
-  slot_takes_none i p slot = by_target (target i) refl
+  slot_takes_none : (i : ℕ) (p : Pending) → i ≤ limit → IsSlot i p → target i ≡ None
+  slot_takes_none i p le slot = by_target (target i) refl
     where
       by_target : (o : Option ℕ) → target i ≡ o → target i ≡ None
       by_target None e = e
@@ -48,7 +48,7 @@ module _ (design : Design) (transfers : ℕ → Bool)
           let sum = slot.sum in
           let whole = slot.whole in
           let some = slot.some in
-          absurd (both_ways (transfers (pc i)) (ap transfers slot.at ∙ quiet (pc slot.t) slot.d (transfer slot.t p.target slot.took) slot.first (omega arith)) (transfer i to e))
+          absurd (both_ways (transfers (pc i)) (ap transfers slot.at ∙ quiet (pc slot.t) slot.d (transfer slot.t p.target (omega arith) slot.took) slot.first (omega arith)) (transfer i to le e))
 
   -- what comes of an instruction, by the transfer that it takes and the one that is on its way
   module _ (i : ℕ) where
@@ -141,7 +141,7 @@ module _ (design : Design) (transfers : ℕ → Bool)
           nearer q (slots_stand i q g) n (turned_by i n (q.left - 1) refl (pc (suc i)) (pending (suc i)) (next_by i None (Some q) f g))
 
   -- after its slots a transfer that was taken happens
-  module _ (t to : ℕ) (took : target t ≡ Some to) where
+  module _ (t to : ℕ) (took : target t ≡ Some to) (near : t + design.slots ≤ limit) where
     -- the slot of this number comes next, or all slots are over
     data After (d : ℕ) : Type 0 where
       slot : (p : Pending) → p.target ≡ to → p.left + d ≡ suc design.slots → 1 ≤ p.left → pending (t + d) ≡ Some p → After d
@@ -163,7 +163,7 @@ module _ (design : Design) (transfers : ℕ → Bool)
     next_after d few (over whole at) = absurd (omega arith)
     next_after d few (slot p same count some at) =
         let n : Pending = record p { left = p.left - 1 } in
-        let none = slot_takes_none (t + d) p (slots_stand (t + d) p at) in
+        let none = slot_takes_none (t + d) p (omega arith) (slots_stand (t + d) p at) in
         by_case n same refl (turned_by (t + d) n (p.left - 1) refl (pc (suc (t + d))) (pending (suc (t + d))) (next_by (t + d) None (Some p) none at))
       where
         sum : suc (t + d) ≡ t + suc d

@@ -1,6 +1,7 @@
 -- The track of a run of the machine, cycle by cycle.
 use Rattle.std.proofs.Common.{◌≡◌, ℕ, zero, suc, ◌+◌, ◌-◌, ◌≤◌, ◌<◌, ◌%◌, ◌^◌, Bool, true, false, cond, if◌then◌else◌, slice_index, List, Option, Some, None, option_and_then, refl, sym, ap, ◌∙◌, subst, arith, pow_pos}
 use Rattle.std.proofs.Math.Nat.{mod-mod}
+use Rattle.std.specs.List.{AllByRecursion as Each}
 use Rattle.ap_bits.specs.declared.card.Card.{Card}
 use Rattle.ap_desc.specs.Clean.{IsClean}
 use Rattle.ap_desc.specs.declared.design.Design.{Design}
@@ -16,6 +17,9 @@ use Rattle.ap_model.specs.Stalls.{busy_from}
 use Rattle.ap_model.specs.States.{start}
 use Rattle.ap_space.proofs.Fired.{branch_high, branch_low, few_slots}
 use Rattle.ap_space.proofs.Flights.{count_at_start, empty_at_start}
+use Rattle.ap_space.proofs.Logged.{IsLogged, turn_logged}
+use Rattle.ap_space.proofs.Passed.{IsPassed, turn_passed}
+use Rattle.ap_space.proofs.SampleRuns.{IsOldSample, turn_sampled}
 use Rattle.ap_space.proofs.Tracked.{turn_tracked}
 use Rattle.ap_space.proofs.Tracks.{Frame, IsFrame, IsHold, IsTrack, IsTurn, Track, turn_track}
 use Rattle.ap_space.proofs.Turns.{IsControl, IsTracked, TakesBy, frame_of, is_turn, next_track}
@@ -104,6 +108,9 @@ module _ (design : Design) (cards : List Card) (image : Image) (trace : Trace) w
     pub record IsRun (j : ℕ) : Type 0 where
       pub track : IsTrack (frame_of design image) (track_at j)
       pub tracked : IsTracked design image (state_at j) (track_at j)
+      pub passed : IsPassed (state_at j) (track_at j)
+      pub sampled : Each (IsOldSample design image (track_at j)) (state_at j).sampled
+      pub logged : Each (IsLogged design (track_at j)) (state_at j).log
 
     first_track : IsTrack (frame_of design image) (track_at 0)
     unfolding track_at
@@ -126,6 +133,18 @@ module _ (design : Design) (cards : List Card) (image : Image) (trace : Trace) w
       numbers = λ i less still. absurd (omega arith);
     }
 
+    first_passed : IsPassed (state_at 0) (track_at 0)
+    unfolding track_at over start
+    first_passed = record { all = λ i s some less. absurd (omega arith); only = λ i s e. absurd cc }
+
+    first_sampled : Each (IsOldSample design image (track_at 0)) (state_at 0).sampled
+    unfolding over start
+    first_sampled = tt
+
+    first_logged : Each (IsLogged design (track_at 0)) (state_at 0).log
+    unfolding over start
+    first_logged = tt
+
     next_is_track : (j : ℕ) → IsRun j → IsTrack (frame_of design image) (track_at (suc j))
     unfolding track_at
     next_is_track j before =
@@ -138,9 +157,27 @@ module _ (design : Design) (cards : List Card) (image : Image) (trace : Trace) w
         subst (λ s. IsTracked design image s (track_at (suc j))) (sym (state_next j))
         (turn_tracked design cards image (line_of j) (state_at j) (control_at j) (track_at j) clean before.tracked before.track (decides j))
 
+    next_is_passed : (j : ℕ) → IsRun j → IsPassed (state_at (suc j)) (track_at (suc j))
+    unfolding track_at
+    next_is_passed j before =
+        subst (λ s. IsPassed s (track_at (suc j))) (sym (state_next j))
+        (turn_passed design cards image (line_of j) (state_at j) (control_at j) (track_at j) clean before.tracked before.track (decides j) before.passed)
+
+    next_is_sampled : (j : ℕ) → IsRun j → Each (IsOldSample design image (track_at (suc j))) (state_at (suc j)).sampled
+    unfolding track_at
+    next_is_sampled j before =
+        subst (λ (s : State). Each (IsOldSample design image (track_at (suc j))) s.sampled) (sym (state_next j))
+        (turn_sampled design cards image (line_of j) (state_at j) (control_at j) (track_at j) clean before.tracked before.track (decides j) before.sampled)
+
+    next_is_logged : (j : ℕ) → IsRun j → Each (IsLogged design (track_at (suc j))) (state_at (suc j)).log
+    unfolding track_at
+    next_is_logged j before =
+        subst (λ (s : State). Each (IsLogged design (track_at (suc j))) s.log) (sym (state_next j))
+        (turn_logged design cards image (line_of j) (state_at j) (control_at j) (track_at j) clean is_frame before.tracked before.track (decides j) before.logged)
+
     pub run_at : (j : ℕ) → IsRun j
-    run_at zero = record { track = first_track; tracked = first_tracked }
-    run_at (suc j) = record { track = next_is_track j (run_at j); tracked = next_is_tracked j (run_at j) }
+    run_at zero = record { track = first_track; tracked = first_tracked; passed = first_passed; sampled = first_sampled; logged = first_logged }
+    run_at (suc j) = record { track = next_is_track j (run_at j); tracked = next_is_tracked j (run_at j); passed = next_is_passed j (run_at j); sampled = next_is_sampled j (run_at j); logged = next_is_logged j (run_at j) }
 
     -- a cycle is a turn
     pub turn_at : (j : ℕ) → IsTurn (frame_of design image) (control_at j).held (track_at j) (track_at (suc j))
