@@ -30,6 +30,12 @@ pub data Gap (frame : Frame) (spacing : Spacing) (track : Track) (i j : ℕ) : T
 abbrev pub HasGaps : Frame → Spacing → Track → Type 0
 HasGaps frame spacing track = (i j : ℕ) → i < j → j ≤ track.next → track.stage i < frame.stages → Gap frame spacing track i j
 
+-- the kinds of cycles, where a transfer that is taken goes to a landing
+pub data Landed (frame : Frame) (spacing : Spacing) (hold : ℕ → Bool) (old new : Track) : Type 0 where
+  lands_waiting : Waits frame hold old new → Landed frame spacing hold old new
+  lands_fetching : Fetches frame hold old new → Landed frame spacing hold old new
+  lands_taking : (t target : ℕ) → Takes frame hold old new t target → spacing.Landing target → Landed frame spacing hold old new
+
 module _ (frame : Frame) (is_frame : IsFrame frame) (spacing : Spacing) (is_spacing : IsSpacing frame spacing) where
   -- two words in flight are as many stages apart as their distance says
   pub far_apart : (track : Track) → IsTrack frame track → HasGaps frame spacing track
@@ -56,7 +62,7 @@ module _ (frame : Frame) (is_frame : IsFrame frame) (spacing : Spacing) (is_spac
 
   -- A cycle keeps the gaps.
   module _ (hold : ℕ → Bool) (old new : Track) (track : IsTrack frame old) (turn : IsTurn frame hold old new) (gaps : HasGaps frame spacing old)
-      (lands : (t target : ℕ) → Takes frame hold old new t target → spacing.Landing target) where
+      (kind : Landed frame spacing hold old new) where
     was : (i : ℕ) → i < new.next → new.stage i < frame.stages → old.stage i < frame.stages
     was i lt in_flight = by_case (cases_lt (old.stage i) frame.stages)
       where
@@ -152,7 +158,7 @@ module _ (frame : Frame) (is_frame : IsFrame frame) (spacing : Spacing) (is_spac
             straight 1 (omega arith) (f.place ∙ ap (λ x. (old.place x + 1) % frame.places) same ∙ ap (λ p. (p + 1) % frame.places) (sym (turn.places i lt)))
 
     -- across a transfer that is taken: the drain makes up for what is missing
-    module _ (t target : ℕ) (taken : Takes frame hold old new t target) where
+    module _ (t target : ℕ) (taken : Takes frame hold old new t target) (landing : spacing.Landing target) where
       across : (i : ℕ) → i < new.next → new.stage i < frame.stages → spacing.reach (old.place i) ≤ old.stage i + 1 + spacing.drain
       across i lt in_flight = by_order (cases_order i t)
         where
@@ -202,15 +208,15 @@ module _ (frame : Frame) (is_frame : IsFrame frame) (spacing : Spacing) (is_spac
           let same : spacing.reach (new.place i) ≡ spacing.reach (old.place i) = ap spacing.reach (turn.places i lt) in
           let sum : target + 0 ≡ target = omega arith in
           let at : target ≡ (target + 0) % frame.places = sym (ap (λ x. x % frame.places) sum ∙ mod-eq_of_lt taken.fits) in
-          broken target 0 (lands t target taken) (taken.place ∙ at) (omega arith)
+          broken target 0 landing (taken.place ∙ at) (omega arith)
 
     gap_next : (i : ℕ) → i < new.next → new.stage i < frame.stages → Gap frame spacing new i new.next
-    gap_next i lt in_flight = by_kind turn.kind
+    gap_next i lt in_flight = by_kind kind
       where
-        by_kind : Kind frame hold old new → Gap frame spacing new i new.next
-        by_kind (waits w) = gap_waits w i lt in_flight
-        by_kind (fetches f) = gap_fetches f i lt in_flight
-        by_kind (takes t target k) = gap_takes t target k i lt in_flight
+        by_kind : Landed frame spacing hold old new → Gap frame spacing new i new.next
+        by_kind (lands_waiting w) = gap_waits w i lt in_flight
+        by_kind (lands_fetching f) = gap_fetches f i lt in_flight
+        by_kind (lands_taking t target k landing) = gap_takes t target k landing i lt in_flight
 
     pub turn_gaps : HasGaps frame spacing new
     turn_gaps i j less le in_flight = by_case (cases_lt j new.next)

@@ -19,3 +19,4 @@ pub mod Logged
 pub mod Spacings
 pub mod Futures
 pub mod Partner
+pub mod Meets

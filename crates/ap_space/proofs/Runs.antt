@@ -1,6 +1,7 @@
 -- The track of a run of the machine, cycle by cycle.
 use Rattle.std.proofs.Common.{◌≡◌, ℕ, zero, suc, ◌+◌, ◌-◌, ◌≤◌, ◌<◌, ◌%◌, ◌^◌, Bool, true, false, cond, if◌then◌else◌, slice_index, List, Option, Some, None, option_and_then, refl, sym, ap, ◌∙◌, subst, arith, pow_pos}
 use Rattle.std.proofs.Math.Nat.{mod-mod}
+use Rattle.std.proofs.lemmas.Bool.{cond-false}
 use Rattle.std.specs.List.{AllByRecursion as Each}
 use Rattle.ap_bits.specs.declared.card.Card.{Card}
 use Rattle.ap_desc.specs.Clean.{IsClean}
@@ -21,8 +22,8 @@ use Rattle.ap_space.proofs.Logged.{IsLogged, turn_logged}
 use Rattle.ap_space.proofs.Passed.{IsPassed, turn_passed}
 use Rattle.ap_space.proofs.SampleRuns.{IsOldSample, turn_sampled}
 use Rattle.ap_space.proofs.Tracked.{turn_tracked}
-use Rattle.ap_space.proofs.Tracks.{Frame, IsFrame, IsHold, IsTrack, IsTurn, Track, turn_track}
-use Rattle.ap_space.proofs.Turns.{IsControl, IsTracked, TakesBy, frame_of, is_turn, next_track}
+use Rattle.ap_space.proofs.Tracks.{Fetches, Frame, IsFrame, IsHold, IsTrack, IsTurn, Takes, Track, Waits, turn_track}
+use Rattle.ap_space.proofs.Turns.{IsControl, IsTracked, TakesBy, fetches_is, frame_of, is_turn, next_track, takes_is, waits_is}
 
 pub word_mod : (design : Design) (image : Image) (place : ℕ) → word_at design image (place % 2 ^ design.address) ≡ word_at design image place
 word_mod design image place = ap (slice_index image.code) (mod-mod place (2 ^ design.address))
@@ -91,6 +92,10 @@ module _ (design : Design) (cards : List Card) (image : Image) (trace : Trace) w
   pub state_next : (j : ℕ) → state_at (suc j) ≡ after_control design cards image (line_of j) (state_at j) (control_at j)
   unfolding over cycle
   state_next j = refl
+
+  pub next_first : (state_at 0).next ≡ 0
+  unfolding over start
+  next_first = refl
 
   -- every transfer that is taken goes to an address
   abbrev pub TargetsFit : Type 0
@@ -183,6 +188,27 @@ module _ (design : Design) (cards : List Card) (image : Image) (trace : Trace) w
     pub turn_at : (j : ℕ) → IsTurn (frame_of design image) (control_at j).held (track_at j) (track_at (suc j))
     unfolding track_at
     turn_at j = is_turn design cards image (line_of j) (state_at j) (control_at j) (track_at j) clean (run_at j).tracked (run_at j).track (decides j)
+
+    -- of what kind it is
+    pub waits_at : (j : ℕ) → (control_at j).taken ≡ None → (control_at j).held 0 ≡ true → Waits (frame_of design image) (control_at j).held (track_at j) (track_at (suc j))
+    unfolding track_at
+    waits_at j none held = waits_is design cards image (line_of j) (state_at j) (control_at j) (track_at j) clean (run_at j).tracked (run_at j).track (decides j) none held
+
+    pub fetches_at : (j : ℕ) → (control_at j).taken ≡ None → (control_at j).held 0 ≡ false → Fetches (frame_of design image) (control_at j).held (track_at j) (track_at (suc j))
+    unfolding track_at
+    fetches_at j none held = fetches_is design cards image (line_of j) (state_at j) (control_at j) (track_at j) clean (run_at j).tracked (run_at j).track (decides j) none held
+
+    pub takes_at : (j to : ℕ) (some : (control_at j).taken ≡ Some to) → Takes (frame_of design image) (control_at j).held (track_at j) (track_at (suc j)) ((decides j).taken to some).flight.number to
+    unfolding track_at
+    takes_at j to some = takes_is design cards image (line_of j) (state_at j) (control_at j) (track_at j) clean (run_at j).tracked (run_at j).track (decides j) to some
+
+    -- where nothing is held in the transfer's stage, and no transfer is taken, the flight there takes none
+    pub untaken : (j : ℕ) (f : Flight) → (control_at j).taken ≡ None → (control_at j).held design.branch ≡ false → flight_at (state_at j) design.branch ≡ Some f
+        → (flight_effect design cards (line_of j) (state_at j) design.branch f).target ≡ None
+    untaken j f none free is =
+        sym (ap (option_and_then (λ flight. (flight_effect design cards (line_of j) (state_at j) design.branch flight).target)) is)
+        ∙ sym (cond-false (held_stages design (line_of j) (state_at j) design.branch) None (option_and_then (λ flight. (flight_effect design cards (line_of j) (state_at j) design.branch flight).target) (flight_at (state_at j) design.branch)) (sym (held_is design cards image (line_of j) (state_at j) design.branch) ∙ free))
+        ∙ sym (taken_is design cards image (line_of j) (state_at j)) ∙ none
 
     pub next_at : (j : ℕ) → (track_at j).next ≡ (state_at j).next
     next_at j = (run_at j).tracked.next

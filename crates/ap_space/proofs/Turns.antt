@@ -249,43 +249,42 @@ module _ (design : Design) (cards : List Card) (image : Image) (inputs : TraceLi
   pub last_place : new.place new.next ≡ after.pc
   last_place = cond-false (nat_lt after.next after.next) (track.place after.next) after.pc (le-ltb after.next after.next (omega arith))
 
-  kind_taken : (to : ℕ) → control.taken ≡ Some to → Kind (frame_of design image) control.held track new
-  kind_taken to some =
-      takes (t to some) to
-      (record {
-        free = free to some;
-        number = (flight_is to some).number;
-        there = (flight_is to some).stage;
-        transfers = transfer_is to some;
-        next = next_taken to some;
-        room = (let e = next_taken to some in let reach = (last_there to some).0 in omega arith);
-        place = last_place ∙ pc_taken to some;
-        fits = decides.fits to some;
-      })
+  pub takes_is : (to : ℕ) (some : control.taken ≡ Some to) → Takes (frame_of design image) control.held track new (t to some) to
+  takes_is to some = record {
+    free = free to some;
+    number = (flight_is to some).number;
+    there = (flight_is to some).stage;
+    transfers = transfer_is to some;
+    next = next_taken to some;
+    room = (let e = next_taken to some in let reach = (last_there to some).0 in omega arith);
+    place = last_place ∙ pc_taken to some;
+    fits = decides.fits to some;
+  }
 
-  kind_quiet : control.taken ≡ None → (h : Bool) → control.held 0 ≡ h → Kind (frame_of design image) control.held track new
-  kind_quiet none true held =
-      waits (record {
-        held = held;
-        next = next_quiet none ∙ cond-true (control.held 0) state.next (state.next + 1) held ∙ sym tracked.next;
-        place = last_place ∙ pc_is ∙ cond-true (control.held 0) state.pc (unwrap_or control.taken ((state.pc + 1) % 2 ^ design.address)) held ∙ sym tracked.pc;
-      })
-  kind_quiet none false held =
-      fetches (record {
-        free = held;
-        next = (let e = next_quiet none ∙ cond-false (control.held 0) state.next (state.next + 1) held in let same = tracked.next in omega arith);
-        place = last_place ∙ pc_is ∙ cond-false (control.held 0) state.pc (unwrap_or control.taken ((state.pc + 1) % 2 ^ design.address)) held
-            ∙ ap (λ o. unwrap_or o ((state.pc + 1) % 2 ^ design.address)) none ∙ ap (λ p. (p + 1) % 2 ^ design.address) (sym tracked.pc);
-      })
+  pub waits_is : control.taken ≡ None → control.held 0 ≡ true → Waits (frame_of design image) control.held track new
+  waits_is none held = record {
+    held = held;
+    next = next_quiet none ∙ cond-true (control.held 0) state.next (state.next + 1) held ∙ sym tracked.next;
+    place = last_place ∙ pc_is ∙ cond-true (control.held 0) state.pc (unwrap_or control.taken ((state.pc + 1) % 2 ^ design.address)) held ∙ sym tracked.pc;
+  }
 
-  kind_by : (o : Option ℕ) → control.taken ≡ o → Kind (frame_of design image) control.held track new
-  kind_by None e = kind_quiet e (control.held 0) refl
-  kind_by (Some to) e = kind_taken to e
+  pub fetches_is : control.taken ≡ None → control.held 0 ≡ false → Fetches (frame_of design image) control.held track new
+  fetches_is none held = record {
+    free = held;
+    next = (let e = next_quiet none ∙ cond-false (control.held 0) state.next (state.next + 1) held in let same = tracked.next in omega arith);
+    place = last_place ∙ pc_is ∙ cond-false (control.held 0) state.pc (unwrap_or control.taken ((state.pc + 1) % 2 ^ design.address)) held
+        ∙ ap (λ o. unwrap_or o ((state.pc + 1) % 2 ^ design.address)) none ∙ ap (λ p. (p + 1) % 2 ^ design.address) (sym tracked.pc);
+  }
+
+  kind_by : (o : Option ℕ) → control.taken ≡ o → (h : Bool) → control.held 0 ≡ h → Kind (frame_of design image) control.held track new
+  kind_by None e true h = waits (waits_is e h)
+  kind_by None e false h = fetches (fetches_is e h)
+  kind_by (Some to) e h g = takes (t to e) to (takes_is to e)
 
   pub is_turn : IsTurn (frame_of design image) control.held track new
   is_turn = record {
     holds = decides.holds;
-    kind = kind_by control.taken refl;
+    kind = kind_by control.taken refl (control.held 0) refl;
     killed = λ i ge. cond-false (nat_lt i after.next) _ 0 (le-ltb i after.next ge);
     gone = λ i less gone. cond-true (nat_lt i after.next) _ 0 (lt-ltb i after.next less) ∙ cond-false (nat_lt (track.stage i) design.stages) _ (track.stage i) (le-ltb (track.stage i) design.stages gone);
     stays = λ i less there held. cond-true (nat_lt i after.next) _ 0 (lt-ltb i after.next less) ∙ cond-true (nat_lt (track.stage i) design.stages) _ (track.stage i) (lt-ltb (track.stage i) design.stages there) ∙ cond-true (control.held (track.stage i)) (track.stage i) (suc (track.stage i)) held;
