@@ -27,7 +27,7 @@ module _ (design : Design) (cards : List Card) (image : Image) (trace : Trace) (
   abbrev pub Deep : ℕ → ℕ → Type 0
   Deep j i = IsDeep (frame_of design image) (track j) i
 
-  deep_next : (j i : ℕ) → Deep j i → Deep (suc j) i
+  pub deep_next : (j i : ℕ) → Deep j i → Deep (suc j) i
   deep_next j i deep =
       deep_stays (frame_of design image) (control_at design cards image trace j).held (track j) (track (suc j)) is_frame (run_at design cards image trace clean is_frame fits j).track (turn_at design cards image trace clean is_frame fits j) i deep
 

@@ -20,3 +20,16 @@ pub mod Spacings
 pub mod Futures
 pub mod Partner
 pub mod Meets
+pub mod PathSteps
+pub mod NextPlaces
+pub mod NextLocals
+pub mod LogSteps
+pub mod LogRuns
+pub mod Holds
+pub mod Ends
+pub mod RowPorts
+pub mod Values
+pub mod Fits
+pub mod Rows
+pub mod RowRuns
+pub mod Law

@@ -170,7 +170,7 @@ module _ (x : Setting) (is : IsSetting x) where
       by_kind (fetches f) low = let e = f.next in omega arith
       by_kind (takes t to k) low = let room = k.room in omega arith
 
-  module _ (j : ℕ) (less : j < x.c) (meets : Meets j) where
+  module _ (j : ℕ) (meets : Meets j) where
     -- the word of a number on the path
     pub word_is : (i : ℕ) → i ≤ (track j).next → OnPath j i → word_at x.design x.image ((track j).place i) ≡ word i
     word_is i le on = ap (slice_index x.image.code) (mod-eq_of_lt ((run j).track.within i le) ∙ meets.places i le on)
@@ -207,7 +207,8 @@ module _ (x : Setting) (is : IsSetting x) where
         let close = access_before_write x.design (word i) (word e.number) (suc s) e.stage writes place accesses (written.goes place goes) in
         omega arith
 
-    -- A flight that fires does what the partner's instruction does.
+  -- A flight that fires does what the partner's instruction does.
+  module _ (j : ℕ) (less : j < x.c) (meets : Meets j) where
     module _ (s : ℕ) (f : Flight) (firing : IsFiring x.design (state j) (control j) (suc s) f) (on : OnPath j f.number) (agrees : Agrees (suc j) f.number) where
       abbrev i : ℕ
       i = f.number
@@ -257,7 +258,7 @@ module _ (x : Setting) (is : IsSetting x) where
               where
                 by_stage : (e.stage < (track j).stage e.number) ⊎ ((track j).stage e.number ≤ e.stage) → e.stage < (track j).stage e.number
                 by_stage (inl h) = h
-                by_stage (inr h) = absurd (unpassed_older i s place e flight_is.number flight_is.stage firing.high on reads within.0 older within.1 h goes_there)
+                by_stage (inr h) = absurd (unpassed_older j meets i s place e flight_is.number flight_is.stage firing.high on reads within.0 older within.1 h goes_there)
             by_order goes_there (inr same) =
                 let stage : (track j).stage e.number ≡ suc s = ap (track j).stage same.0 ∙ flight_is.stage in
                 lt-ltb e.stage ((track j).stage e.number) (let low = same.1 in omega arith)
@@ -282,7 +283,7 @@ module _ (x : Setting) (is : IsSetting x) where
         rest_out e within (inl younger) = by_goes (cases_Bool (goes e))
           where
             by_stage : goes e ≡ true → (e.stage < (track j).stage e.number) ⊎ ((track j).stage e.number ≤ e.stage) → is_passed j e ≡ false
-            by_stage goes_there (inl h) = absurd (passed_younger i s place false e flight_is.number flight_is.stage firing.high on reads within.0 younger h goes_there)
+            by_stage goes_there (inl h) = absurd (passed_younger j meets i s place false e flight_is.number flight_is.stage firing.high on reads within.0 younger h goes_there)
             by_stage goes_there (inr h) = le-ltb e.stage ((track j).stage e.number) h
 
             by_goes : (goes e ≡ true) ⊎ (goes e ≡ false) → (goes e && is_passed j e) ≡ false

@@ -19,7 +19,7 @@ use Rattle.ap_model.specs.Sequence.{Partway, after_instruction, next_instruction
 use Rattle.ap_model.specs.States.{start_storages}
 use Rattle.ap_space.proofs.Lists.{EachPair, each_always, each_append, each_as, each_map, pair_always, pair_append}
 
-range_more : (a n : ℕ) → range_with_len a (n + 1) ≡ range_with_len a n ++ (a + n) ∷ []
+pub range_more : (a n : ℕ) → range_with_len a (n + 1) ≡ range_with_len a n ++ (a + n) ∷ []
 range_more a zero = ap (λ k. k ∷ []) (omega arith)
 range_more a (suc n) =
     let more : suc n + 1 ≡ suc (n + 1) = omega arith in
@@ -186,6 +186,18 @@ module _ (design : Design) (cards : List Card) (image : Image) (samples : List S
       ∙ ap (λ ys. log_of i ++ ys) (append_assoc (part_of i (design.stages - 1)).log before.0 block),
       each_append (λ (e : Entry). i < e.number) before.0 block before.2
       (each_as (IsWithin (suc i + r) (design.stages - 1)) (λ (e : Entry). i < e.number) (λ e h. (let is = h.0 in omega arith)) block (part_within (suc i + r) (design.stages - 1))))
+
+  -- later instructions add entries behind
+  pub log_from : (n r : ℕ) → (rest : List Entry) × (log_of (n + r) ≡ log_of n ++ rest) × Each (λ (e : Entry). n ≤ e.number) rest
+  log_from n zero = let none : n + 0 ≡ n = omega arith in ([], ap log_of none ∙ sym (append-nil (log_of n)), tt)
+  log_from n (suc r) =
+      let before = log_from n r in
+      let more : n + suc r ≡ suc (n + r) = omega arith in
+      let block = (part_of (n + r) (design.stages - 1)).log in
+      (before.0 ++ block,
+      ap log_of more ∙ log_more (n + r) ∙ ap (λ xs. xs ++ block) before.1 ∙ append_assoc (log_of n) before.0 block,
+      each_append (λ (e : Entry). n ≤ e.number) before.0 block before.2
+      (each_as (IsWithin (n + r) (design.stages - 1)) (λ (e : Entry). n ≤ e.number) (λ e h. (let is = h.0 in omega arith)) block (part_within (n + r) (design.stages - 1))))
 
   -- the entries of a pair in the log: what stands before them, and what behind
   pub record IsAtPair (n i s : ℕ) : Type 0 where

@@ -1,5 +1,5 @@
 -- The track of a run of the machine, cycle by cycle.
-use Rattle.std.proofs.Common.{◌≡◌, ℕ, zero, suc, ◌+◌, ◌-◌, ◌≤◌, ◌<◌, ◌%◌, ◌^◌, Bool, true, false, cond, if◌then◌else◌, slice_index, List, Option, Some, None, option_and_then, refl, sym, ap, ◌∙◌, subst, arith, pow_pos}
+use Rattle.std.proofs.Common.{◌≡◌, ℕ, zero, suc, ◌++◌, ◌+◌, ◌-◌, ◌≤◌, ◌<◌, ◌%◌, ◌^◌, Bool, true, false, cond, if◌then◌else◌, slice_index, List, Option, Some, None, option_and_then, refl, sym, ap, ◌∙◌, subst, arith, pow_pos}
 use Rattle.std.proofs.Math.Nat.{mod-mod}
 use Rattle.std.proofs.lemmas.Bool.{cond-false}
 use Rattle.std.specs.List.{AllByRecursion as Each}
@@ -13,15 +13,15 @@ use Rattle.ap_image.specs.declared.trace.TraceLine.{TraceLine}
 use Rattle.ap_model.proofs.MachineLaws.{holds_from_zero}
 use Rattle.ap_model.specs.declared.state.Flight.{Flight}
 use Rattle.ap_model.specs.declared.state.State.{State}
-use Rattle.ap_model.specs.Cycles.{CycleControl, after_control, control_of, cycle, flight_at, flight_effect, held_stages, inputs_at, over, taken_transfer}
+use Rattle.ap_model.specs.Cycles.{CycleControl, after_control, control_of, cycle, cycle_entries, flight_at, flight_effect, held_stages, inputs_at, is_killed, over, taken_transfer}
 use Rattle.ap_model.specs.Stalls.{busy_from}
 use Rattle.ap_model.specs.States.{start}
 use Rattle.ap_space.proofs.Fired.{branch_high, branch_low, few_slots}
 use Rattle.ap_space.proofs.Flights.{count_at_start, empty_at_start}
-use Rattle.ap_space.proofs.Logged.{IsLogged, turn_logged}
+use Rattle.ap_space.proofs.Logged.{IsLogged, fires_on, log_is, turn_logged}
 use Rattle.ap_space.proofs.Passed.{IsPassed, turn_passed}
-use Rattle.ap_space.proofs.SampleRuns.{IsOldSample, turn_sampled}
-use Rattle.ap_space.proofs.Tracked.{turn_tracked}
+use Rattle.ap_space.proofs.SampleRuns.{IsFiring, IsOldSample, turn_sampled}
+use Rattle.ap_space.proofs.Tracked.{left_of, turn_tracked}
 use Rattle.ap_space.proofs.Tracks.{Fetches, Frame, IsFrame, IsHold, IsTrack, IsTurn, Takes, Track, Waits, turn_track}
 use Rattle.ap_space.proofs.Turns.{IsControl, IsTracked, TakesBy, fetches_is, frame_of, is_turn, next_track, takes_is, waits_is}
 
@@ -66,7 +66,7 @@ module _ (design : Design) (cards : List Card) (image : Image) (inputs : TraceLi
         transfer = λ held. held_is design.branch ∙ holds.transfer (sym (held_is 0) ∙ held);
       }
 
-  taken_by_flight : (to : ℕ) → control.taken ≡ Some to → TakesBy design cards inputs state control to
+  pub taken_by_flight : (to : ℕ) → control.taken ≡ Some to → TakesBy design cards inputs state control to
   taken_by_flight to some = by_held (held_stages design inputs state design.branch) refl (sym taken_is ∙ some)
     where
       by_flight : (o : Option Flight) → flight_at state design.branch ≡ o → control.held design.branch ≡ false → option_and_then (λ flight. (flight_effect design cards inputs state design.branch flight).target) o ≡ Some to → TakesBy design cards inputs state control to
@@ -104,6 +104,18 @@ module _ (design : Design) (cards : List Card) (image : Image) (trace : Trace) w
   pub track_at : ℕ → Track
   track_at zero = record { next = 0; stage = λ i. 0; place = λ i. 0 }
   track_at (suc j) = next_track design (track_at j) (control_at j) (after_control design cards image (line_of j) (state_at j) (control_at j))
+
+  pub next_start : (track_at 0).next ≡ 0
+  unfolding track_at
+  next_start = refl
+
+  pub first_place : (i : ℕ) → (track_at 0).place i ≡ 0
+  unfolding track_at
+  first_place i = refl
+
+  pub first_stage : (i : ℕ) → (track_at 0).stage i ≡ 0
+  unfolding track_at
+  first_stage i = refl
 
   module _ (clean : IsClean design) (is_frame : IsFrame (frame_of design image)) (fits : TargetsFit) where
     pub decides : (j : ℕ) → IsControl design cards image (line_of j) (state_at j) (control_at j)
@@ -209,6 +221,19 @@ module _ (design : Design) (cards : List Card) (image : Image) (trace : Trace) w
         sym (ap (option_and_then (λ flight. (flight_effect design cards (line_of j) (state_at j) design.branch flight).target)) is)
         ∙ sym (cond-false (held_stages design (line_of j) (state_at j) design.branch) None (option_and_then (λ flight. (flight_effect design cards (line_of j) (state_at j) design.branch flight).target) (flight_at (state_at j) design.branch)) (sym (held_is design cards image (line_of j) (state_at j) design.branch) ∙ free))
         ∙ sym (taken_is design cards image (line_of j) (state_at j)) ∙ none
+
+    -- a flight that fires isn't killed, and has passed its stage; a number that is left isn't killed
+    pub fires_at : (j q : ℕ) (f : Flight) → IsFiring design (state_at j) (control_at j) q f → (f.number < (track_at (suc j)).next) × ((track_at (suc j)).stage f.number ≡ suc q)
+    unfolding track_at
+    fires_at j q f firing = fires_on design cards image (line_of j) (state_at j) (control_at j) (track_at j) clean is_frame (run_at j).tracked (run_at j).track (decides j) q f firing
+
+    pub left_at : (j i : ℕ) → i < (track_at (suc j)).next → i ≤ (track_at j).next → (track_at j).stage i < design.stages → is_killed design (control_at j) ((track_at j).stage i) ≡ false
+    unfolding track_at
+    left_at j i less le in_flight = left_of design cards image (line_of j) (state_at j) (control_at j) (track_at j) clean (run_at j).tracked (run_at j).track (decides j) i less le in_flight
+
+    -- what was written in it
+    pub log_at : (j : ℕ) → (state_at (suc j)).log ≡ (state_at j).log ++ cycle_entries design cards (line_of j) (state_at j) (control_at j)
+    log_at j = ap (λ (s : State). s.log) (state_next j) ∙ log_is design cards image (line_of j) (state_at j) (control_at j) (track_at j) clean is_frame (run_at j).tracked (run_at j).track (decides j)
 
     pub next_at : (j : ℕ) → (track_at j).next ≡ (state_at j).next
     next_at j = (run_at j).tracked.next

@@ -40,7 +40,7 @@ use Rattle.ap_space.proofs.SameFire.{WordHasLocals}
 abbrev pub GoesWhereWritten : Design → ℕ → ℕ → PortWrite → Type 0
 GoesWhereWritten design word stage w = (x : Storage) → goes_to x w.port w.at ≡ true → IsAccessed design word stage true x
 
-guarded : {X : Type 0} (value : Arg → ℕ) (guard : Option Arg) (x y : X) → where_guard value guard x ≡ Some y → x ≡ y
+pub guarded : {X : Type 0} (value : Arg → ℕ) (guard : Option Arg) (x y : X) → where_guard value guard x ≡ Some y → x ≡ y
 guarded value None x y e = cc
 guarded value (Some g) x y e = by_test (value g == 1) e
   where
@@ -58,7 +58,7 @@ count_both : (xs ys : List Micro) → count (xs ++ ys) ≡ count xs + count ys
 count_both [] ys = omega arith
 count_both (m ∷ xs) ys = let rest = count_both xs ys in omega arith
 
-each_ordered : (P : PortWrite → Type 0) (ws : List PortWrite) (ports : List WritePort) → Each P ws → Each P (flat_map (λ port. filter (λ (w : PortWrite). is_same_port port w.port) ws) ports)
+pub each_ordered : (P : PortWrite → Type 0) (ws : List PortWrite) (ports : List WritePort) → Each P ws → Each P (flat_map (λ port. filter (λ (w : PortWrite). is_same_port port w.port) ws) ports)
 each_ordered P ws [] each = tt
 each_ordered P ws (p ∷ ports) each = each_append P (filter (λ (w : PortWrite). is_same_port p w.port) ws) (flat_map (λ port. filter (λ (w : PortWrite). is_same_port port w.port) ws) ports) (each_filter P (λ (w : PortWrite). is_same_port p w.port) ws each) (each_ordered P ws ports each)
 

@@ -84,7 +84,7 @@ module _ (design : Design) (cards : List Card) (image : Image) (inputs : TraceLi
               omega arith
 
   -- where a stage is held, no transfer is taken
-  none_taken : (q : ℕ) → control.held q ≡ true → is_killed design control q ≡ false
+  pub none_taken : (q : ℕ) → control.held q ≡ true → is_killed design control q ≡ false
   none_taken q held = by_taken control.taken refl
     where
       by_taken : (o : Option ℕ) → control.taken ≡ o → is_killed design control q ≡ false
@@ -93,16 +93,16 @@ module _ (design : Design) (cards : List Card) (image : Image) (inputs : TraceLi
 
   -- Each flight.
 
-  stayed_from : (o : Option Flight) (g : Flight) → option_map staying o ≡ Some g → (f : Flight) × (o ≡ Some f) × (g ≡ staying f)
+  pub stayed_from : (o : Option Flight) (g : Flight) → option_map staying o ≡ Some g → (f : Flight) × (o ≡ Some f) × (g ≡ staying f)
   stayed_from None g e = absurd cc
   stayed_from (Some f) g e = (f, refl, cc)
 
-  left_from : (h k : Bool) (f g : Flight) (effect : StageEffect) → option_map (gone_on f) (if h || k then None else Some effect) ≡ Some g → (h ≡ false) × (k ≡ false) × (g ≡ gone_on f effect)
+  pub left_from : (h k : Bool) (f g : Flight) (effect : StageEffect) → option_map (gone_on f) (if h || k then None else Some effect) ≡ Some g → (h ≡ false) × (k ≡ false) × (g ≡ gone_on f effect)
   left_from true k f g effect e = absurd cc
   left_from false true f g effect e = absurd cc
   left_from false false f g effect e = (refl, refl, cc)
 
-  entered_from : (h k : Bool) (f g : Flight) → (if h || k then None else Some f) ≡ Some g → (h ≡ false) × (k ≡ false) × (g ≡ f)
+  pub entered_from : (h k : Bool) (f g : Flight) → (if h || k then None else Some f) ≡ Some g → (h ≡ false) × (k ≡ false) × (g ≡ f)
   entered_from true k f g e = absurd cc
   entered_from false true f g e = absurd cc
   entered_from false false f g e = (refl, refl, cc)

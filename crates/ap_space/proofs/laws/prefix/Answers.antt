@@ -1,13 +1,20 @@
+use Rattle.std.proofs.Common.{ℕ, List}
+use Rattle.ap_bits.specs.declared.card.Card.{Card}
+use Rattle.ap_desc.specs.declared.design.Design.{Design}
+use Rattle.ap_image.specs.declared.image.Image.{Image}
+use Rattle.ap_image.specs.declared.trace.Trace.{Trace}
+use Rattle.ap_space.specs.Prefix.{IsSpacedRun}
+use Rattle.ap_space.proofs.Law.{law_entries, law_rows, law_stands, law_writes}
 use Rattle.ap_space.proofs.laws.prefix.Goals as goal
 
 pub returns-clause-entries : goal.returns-clause-entries
-returns-clause-entries c = ?
+returns-clause-entries c = law_entries
 
 pub returns-clause-writes : goal.returns-clause-writes
-returns-clause-writes c = ?
+returns-clause-writes c = law_writes
 
 pub returns-clause-stands : goal.returns-clause-stands
-returns-clause-stands c = ?
+returns-clause-stands c = law_stands
 
 pub returns-clause-rows : goal.returns-clause-rows
-returns-clause-rows c = ?
+returns-clause-rows c = law_rows
