@@ -92,9 +92,6 @@ module _ (w a b : ℕ) (low : 1 ≤ w) (p : a < 2 ^ w) (q : b < 2 ^ w) where
   abbrev Fits : Term → Type 0
   Fits t = term_value t w a b < 2 ^ w
 
-  level_fits : (y : Term-F ((t : Term) × Fits t)) (x : Term-F Term) → x ≡ level.map-Term-F (λ e. e.0) y → Fits (roll-Term x)
-  level_fits y x is = ?
-
 pub operation_fits : (card : Card) (w op a b : ℕ) → 1 ≤ w → a < 2 ^ w → b < 2 ^ w → operation_value card w op a b < 2 ^ w
 operation_fits card w op a b low p q = by_op (slice_get card.ops op)
   where
