@@ -39,11 +39,8 @@ unfolding writes_of
 seen_entries place [] = refl
 seen_entries place (e ∷ log) = by_test (goes_to place e.write.port e.write.at) (seen_entries place log)
   where
-    abbrev seen : List PortWrite → List (Option ℕ × ℕ)
-    seen ws = filter_map (λ (w : PortWrite). if goes_to place w.port w.at then Some (seen_of place w) else None) ws
-
-    by_test : (b : Bool) → seen (log_writes log) ≡ map (λ (e : Entry). seen_of place e.write) (entries_to place log)
-        → cons_option (if b then Some (seen_of place e.write) else None) (seen (log_writes log)) ≡ map (λ (e : Entry). seen_of place e.write) (cond b (e ∷ entries_to place log) (entries_to place log))
+    by_test : (b : Bool) → filter_map (λ (w : PortWrite). if goes_to place w.port w.at then Some (seen_of place w) else None) (log_writes log) ≡ map (λ (e : Entry). seen_of place e.write) (entries_to place log)
+        → cons_option (if b then Some (seen_of place e.write) else None) (filter_map (λ (w : PortWrite). if goes_to place w.port w.at then Some (seen_of place w) else None) (log_writes log)) ≡ map (λ (e : Entry). seen_of place e.write) (cond b (e ∷ entries_to place log) (entries_to place log))
     by_test true rest = ap (λ ws. seen_of place e.write ∷ ws) rest
     by_test false rest = rest
 

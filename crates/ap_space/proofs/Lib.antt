@@ -33,3 +33,6 @@ pub mod Fits
 pub mod Rows
 pub mod RowRuns
 pub mod Law
+pub mod EffectFits
+pub mod MachineFits
+pub mod StepFits

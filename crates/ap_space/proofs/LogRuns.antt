@@ -19,7 +19,7 @@ use Rattle.ap_space.proofs.Runs.{fires_at, left_at, log_at}
 use Rattle.ap_space.proofs.SampleRuns.{IsFiring}
 use Rattle.ap_space.proofs.Tracks.{stage_grows}
 
-same_bools : (a b : Bool) → (a ≡ true → b ≡ true) → (b ≡ true → a ≡ true) → a ≡ b
+pub same_bools : (a b : Bool) → (a ≡ true → b ≡ true) → (b ≡ true → a ≡ true) → a ≡ b
 same_bools true b up down = sym (up refl)
 same_bools false true up down = down refl
 same_bools false false up down = refl

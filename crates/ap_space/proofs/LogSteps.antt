@@ -44,13 +44,13 @@ kept_one {X} p P (x ∷ xs) y ys each e = by_test (p x) refl e (λ f. kept_one p
     by_test false is f later = later f
 
 module _ (x : Setting) (is : IsSetting x) (j : ℕ) (less : j < x.c) (meets : Meets x is j) (place : Storage) where
-  abbrev here : ℕ → ℕ
+  abbrev pub here : ℕ → ℕ
   here i = (track x is j).stage i
 
-  abbrev goes : Entry → Bool
+  abbrev pub goes : Entry → Bool
   goes e = goes_to place e.write.port e.write.at
 
-  abbrev stops : ℕ → Bool
+  abbrev pub stops : ℕ → Bool
   stops q = (control x is j).held q || is_killed x.design (control x is j) q
 
   -- the entry's pair fires in this cycle, in a stage from this one on
@@ -61,7 +61,7 @@ module _ (x : Setting) (is : IsSetting x) (j : ℕ) (less : j < x.c) (meets : Me
   abbrev pub passes_from : ℕ → Entry → Bool
   passes_from q e = is_passed x is j e || fires_now q e
 
-  abbrev IsIn : Entry → Type 0
+  abbrev pub IsIn : Entry → Type 0
   IsIn e = Written x is e × (1 ≤ e.stage) × (e.stage < x.design.stages)
 
   pub all_in : Each IsIn (all x is)
@@ -87,11 +87,11 @@ module _ (x : Setting) (is : IsSetting x) (j : ℕ) (less : j < x.c) (meets : Me
   from_same : (s : ℕ) (e : Entry) → (e.stage ≡ suc s → (e.stage == here e.number) ≡ true → stops e.stage ≡ false → ⊥) → (goes e && passes_from (suc s) e) ≡ (goes e && passes_from (suc (suc s)) e)
   from_same s e apart = ap (λ b. goes e && (is_passed x is j e || b)) (now_same s e apart)
 
-  abbrev kept_from : ℕ → List Entry → List Entry
+  abbrev pub kept_from : ℕ → List Entry → List Entry
   kept_from q es = filter (λ e. goes e && passes_from q e) es
 
   -- a stage in which nothing fires
-  none_fires : (s : ℕ) → ((i : ℕ) → here i ≡ suc s → stops (suc s) ≡ false → ⊥) → kept_from (suc s) (all x is) ≡ kept_from (suc (suc s)) (all x is)
+  pub none_fires : (s : ℕ) → ((i : ℕ) → here i ≡ suc s → stops (suc s) ≡ false → ⊥) → kept_from (suc s) (all x is) ≡ kept_from (suc (suc s)) (all x is)
   none_fires s none =
       filter_same (λ e. goes e && passes_from (suc s) e) (λ e. goes e && passes_from (suc (suc s)) e) (all x is)
       (each_as IsIn (λ e. (goes e && passes_from (suc s) e) ≡ (goes e && passes_from (suc (suc s)) e))
@@ -246,7 +246,7 @@ module _ (x : Setting) (is : IsSetting x) (j : ℕ) (less : j < x.c) (meets : Me
           ∙ ap (λ es. es ++ filter goes block) (sym before)
 
     -- a stage in which a flight fires
-    one_fires : kept_from (suc s) (all x is) ≡ kept_from (suc (suc s)) (all x is) ++ entries_to place (entries_of (suc s) i (flight_effect x.design x.cards (inputs x is j) (state x is j) (suc s) f))
+    pub one_fires : kept_from (suc s) (all x is) ≡ kept_from (suc (suc s)) (all x is) ++ entries_to place (entries_of (suc s) i (flight_effect x.design x.cards (inputs x is j) (state x is j) (suc s) f))
     one_fires = by_stage (cases_lt (suc s + x.design.slots + 1) x.design.branch)
       where
         none_more : (told : List Entry) → filter goes told ≡ [] → filter goes block ≡ [] → kept_from (suc s) (all x is) ≡ kept_from (suc (suc s)) (all x is) ++ filter goes told

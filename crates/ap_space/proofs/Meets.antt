@@ -269,7 +269,7 @@ module _ (x : Setting) (is : IsSetting x) where
                 both_true : (b : Bool) → (b && true) ≡ b
                 both_true true = refl
                 both_true false = refl
-            by_goes (inr no) = and_left (goes e) (is_passed j e) no ∙ sym no
+            by_goes (inr elsewhere) = and_left (goes e) (is_passed j e) elsewhere ∙ sym elsewhere
 
         block_out : (e : Entry) → IsOf x.design x.cards x.image samples i (suc s) e → (goes e && is_passed j e) ≡ false
         block_out e same =
@@ -288,7 +288,7 @@ module _ (x : Setting) (is : IsSetting x) where
 
             by_goes : (goes e ≡ true) ⊎ (goes e ≡ false) → (goes e && is_passed j e) ≡ false
             by_goes (inl goes_there) = and_right (goes e) (is_passed j e) (by_stage goes_there (cases_lt e.stage ((track j).stage e.number)))
-            by_goes (inr no) = and_left (goes e) (is_passed j e) no
+            by_goes (inr elsewhere) = and_left (goes e) (is_passed j e) elsewhere
 
         -- the pipeline's log has the entries that stand before this pair
         seen : entries_to place (state j).log ≡ entries_to place front

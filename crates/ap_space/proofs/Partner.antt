@@ -58,7 +58,7 @@ module _ (design : Design) (cards : List Card) (image : Image) (samples : List S
     pub late : design.branch ≤ e.stage + design.slots + 1
     pub goes : (x : Storage) → goes_to x e.write.port e.write.at ≡ true → IsAccessed design (word e.number) e.stage true x
 
-  block_written : (i s : ℕ) → Each IsWritten (entries_of (suc s) i (effect i s))
+  pub block_written : (i s : ℕ) → Each IsWritten (entries_of (suc s) i (effect i s))
   block_written i s = by_stage (cases_lt (suc s + design.slots + 1) design.branch)
     where
       writes : Each (GoesWhereWritten design (word i) (suc s)) (effect i s).writes

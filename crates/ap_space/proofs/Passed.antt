@@ -32,7 +32,7 @@ any_append t (x ∷ xs) ys = ap (λ b. t x || b) (any_append t xs ys) ∙ either
     either true b c = refl
     either false b c = refl
 
-any_gives : {X : Type 0} (t : X → Bool) (P : X → Type 0) (G : Type 0) → ((x : X) → t x ≡ true → P x → G) → (xs : List X) → Each P xs → list_any t xs ≡ true → G
+pub any_gives : {X : Type 0} (t : X → Bool) (P : X → Type 0) (G : Type 0) → ((x : X) → t x ≡ true → P x → G) → (xs : List X) → Each P xs → list_any t xs ≡ true → G
 any_gives t P G gives [] each e = absurd cc
 any_gives t P G gives (x ∷ xs) each e = by_case (or_cases (t x) (list_any t xs) e) (λ h. any_gives t P G gives xs each.1 h)
   where

@@ -41,6 +41,10 @@ any_contains (x ∷ xs) n e = by_case (or_cases (x == n) (list_any (λ l. l == n
     by_case (inl h) later = (0, omega arith, eqb-true x n h)
     by_case (inr h) later = let rest = later h in (suc rest.0, (let less = rest.1 in omega arith), rest.2)
 
+-- a pass of the transfer's stage goes to a landing, where its instruction takes a transfer
+abbrev LandsAt : (x : Setting) → IsSetting x → Pass → Type 0
+LandsAt x is p = p.stage ≡ x.design.branch → IfSome (taken_by x.design x.cards x.image (samples x is) p.number) (λ to. IsTrue (list_any (λ l. l == to) x.landings))
+
 module _ (x : Setting) (is : IsSetting x) (j : ℕ) (less : j < x.c) (meets : Meets x is j) where
   abbrev here : ℕ → ℕ
   here i = (track x is j).stage i
@@ -159,12 +163,9 @@ module _ (x : Setting) (is : IsSetting x) (j : ℕ) (less : j < x.c) (meets : Me
         let end : (track x is (suc j + (x.c - suc j))).stage t ≡ (track x is x.c).stage t = ap (λ k. (track x is k).stage t) sum in
         let passed : has t x.design.branch (state x is x.c).passes ≡ true = (run x is x.c).passed.all t x.design.branch low (omega arith) in
         any_contains x.landings to
-        (any_gives (is_pass t x.design.branch) Lands (list_any (λ l. l == to) x.landings ≡ true) gives (state x is x.c).passes is.lands passed)
+        (any_gives (is_pass t x.design.branch) (LandsAt x is) (list_any (λ l. l == to) x.landings ≡ true) gives (state x is x.c).passes is.lands passed)
       where
-        abbrev Lands : Pass → Type 0
-        Lands p = p.stage ≡ x.design.branch → IfSome (taken_by x.design x.cards x.image (samples x is) p.number) (λ to. IsTrue (list_any (λ l. l == to) x.landings))
-
-        gives : (p : Pass) → is_pass t x.design.branch p ≡ true → Lands p → list_any (λ l. l == to) x.landings ≡ true
+        gives : (p : Pass) → is_pass t x.design.branch p ≡ true → LandsAt x is p → list_any (λ l. l == to) x.landings ≡ true
         gives p passes lands =
             let parts = and_parts (p.number == t) (p.stage == x.design.branch) passes in
             let took : taken_by x.design x.cards x.image (samples x is) p.number ≡ Some to =

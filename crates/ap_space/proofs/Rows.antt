@@ -144,16 +144,16 @@ goes_through design cards stage place word locals s input = by_instr (instr_of d
 -- The writes of a cycle, by ports.
 
 module _ (design : Design) (cards : List Card) (inputs : TraceLine) (state : State) (control : CycleControl) (clean : IsClean design) (count : length state.flights ≡ design.stages - 1) where
-  abbrev told : ℕ → Flight → List Entry
+  abbrev pub told : ℕ → Flight → List Entry
   told q f = flight_entries design cards inputs state control q f
 
   abbrev told_of : ℕ → Option Flight → List Entry
   told_of q o = option_map_or (told q) o []
 
-  abbrev entries : List Entry
+  abbrev pub entries : List Entry
   entries = from_last told 1 state.flights
 
-  abbrev write : Entry → PortWrite
+  abbrev pub write : Entry → PortWrite
   write e = e.write
 
   apart : WritesApart design
@@ -190,19 +190,20 @@ module _ (design : Design) (cards : List Card) (inputs : TraceLine) (state : Sta
   -- of all entries, those of a stage
   stage_only : (q : ℕ) (flights : List (Option Flight)) (s : ℕ) → q ≤ s → s < q + length flights → filter (λ (e : Entry). e.stage == s) (from_last told q flights) ≡ told_of s (slice_index_or flights (s - q) None)
   stage_only q [] s low high = absurd (omega arith)
-  stage_only q (flight ∷ flights) s low high = by_order (cases_lt q s)
+  stage_only q (flight ∷ flights) s low high = by_order (cases_lt q s) (λ more less. stage_only (q + 1) flights s more less)
     where
       parts : filter (λ (e : Entry). e.stage == s) (from_last told q (flight ∷ flights)) ≡ filter (λ (e : Entry). e.stage == s) (from_last told (q + 1) flights) ++ filter (λ (e : Entry). e.stage == s) (told_of q flight)
       parts = filter-append (λ (e : Entry). e.stage == s) (from_last told (q + 1) flights) (told_of q flight)
 
-      by_order : (q < s) ⊎ (s ≤ q) → filter (λ (e : Entry). e.stage == s) (from_last told q (flight ∷ flights)) ≡ told_of s (slice_index_or (flight ∷ flights) (s - q) None)
-      by_order (inl less) =
+      by_order : (q < s) ⊎ (s ≤ q) → (q + 1 ≤ s → s < q + 1 + length flights → filter (λ (e : Entry). e.stage == s) (from_last told (q + 1) flights) ≡ told_of s (slice_index_or flights (s - (q + 1)) None))
+          → filter (λ (e : Entry). e.stage == s) (from_last told q (flight ∷ flights)) ≡ told_of s (slice_index_or (flight ∷ flights) (s - q) None)
+      by_order (inl less) later =
           let index : s - q ≡ suc (s - (q + 1)) = omega arith in
           parts
-          ∙ (λ i. stage_only (q + 1) flights s (omega arith) (omega arith) i ++ filter_none (λ (e : Entry). e.stage == s) (told_of q flight) (each_as (IsIn q) (λ e. (e.stage == s) ≡ false) (λ e h. ne_eqb e.stage s (λ same. let is = h.stage in omega arith)) (told_of q flight) (told_in q flight)) i)
+          ∙ (λ i. later (omega arith) (omega arith) i ++ filter_none (λ (e : Entry). e.stage == s) (told_of q flight) (each_as (IsIn q) (λ e. (e.stage == s) ≡ false) (λ e h. ne_eqb e.stage s (λ same. let is = h.stage in omega arith)) (told_of q flight) (told_in q flight)) i)
           ∙ append-nil (told_of s (slice_index_or flights (s - (q + 1)) None))
           ∙ ap (λ k. told_of s (slice_index_or (flight ∷ flights) k None)) (sym index)
-      by_order (inr least) =
+      by_order (inr least) later =
           let same : q ≡ s = omega arith in
           let index : s - q ≡ 0 = omega arith in
           parts
@@ -212,7 +213,7 @@ module _ (design : Design) (cards : List Card) (inputs : TraceLine) (state : Sta
           ∙ ap (λ k. told_of s (slice_index_or (flight ∷ flights) k None)) (sym index)
 
   -- what goes through each port
-  writing : Writing
+  abbrev pub writing : Writing
   writing p = write_through p (map write entries)
 
   each_through : Each (λ w. (stage : ℕ) × IsThrough design stage w) (map write entries)

@@ -96,7 +96,7 @@ module _ (design : Design) (cards : List Card) (image : Image) (inputs : TraceLi
 
   -- what a transfer that is taken leaves: as many words as there are slots behind it
   module _ (to : ℕ) (some : control.taken ≡ Some to) where
-    pub by : TakesBy design cards inputs state control to
+    abbrev pub by : TakesBy design cards inputs state control to
     by = decides.taken to some
 
     abbrev pub t : ℕ

@@ -1,5 +1,5 @@
 -- What lines give fits: the values of operations, and the local that a line assigns.
-use Rattle.std.proofs.Common.{◌≡◌, ℕ, zero, suc, ◌+◌, ◌-◌, ◌*◌, ◌/◌, ◌%◌, ◌^◌, ◌≤◌, ◌<◌, ◌==◌, ◌||◌, not, Bool, true, false, cond, if◌then◌else◌, nat_lt, ℤ, pos, negsuc, ◌-ℤ◌, int_lt, bit_and, bit_or, bit_xor, List, IfSome, IsTrue, Option, Some, None, slice_get, refl, sym, ap, ◌∙◌, subst, arith, mod-lt, pow_pos, pow_mono, lt_of_lt_of_le, eqb-true, eqb-false}
+use Rattle.std.proofs.Common.{◌≡◌, ℕ, zero, suc, ◌+◌, ◌-◌, ◌*◌, ◌/◌, ◌%◌, ◌^◌, ◌≤◌, ◌<◌, ◌==◌, ◌||◌, not, Bool, true, false, cond, if◌then◌else◌, nat_lt, ℤ, pos, negsuc, ◌-ℤ◌, int_lt, bit_and, bit_or, bit_xor, List, IfSome, IsTrue, Option, Some, None, slice_get, refl, sym, ap, ◌∙◌, subst, arith, mod-lt, pow_pos, pow_mono, lt_of_lt_of_le, eqb-true}
 use Rattle.std.proofs.Math.Nat.{div-le_self, mod-le}
 use Rattle.std.proofs.lemmas.Bool.{ltb-true, ltb-false}
 use Rattle.std.proofs.lemmas.Nat.{and_le_l, div_below, mul-lt, or_lt, pow_below, shr_le, xor_lt}
@@ -12,7 +12,7 @@ use Rattle.ap_bits.specs.declared.card.OpCard.{OpCard}
 use Rattle.ap_bits.specs.declared.term.BinOp.{BinOp}
 use Rattle.ap_bits.specs.declared.term.BinOp.TheVariants as two
 use Rattle.ap_bits.specs.declared.term.Term.{Term}
-use Rattle.ap_bits.specs.declared.term.Term.TheFolds.{fold-roll-Term, ind-Term}
+use Rattle.ap_bits.specs.declared.term.Term.TheFolds.{fold-roll-Term, ind-Term, map-Term}
 use Rattle.ap_bits.specs.declared.term.Term.TheOpen.{Term-F}
 use Rattle.ap_bits.specs.declared.term.Term.TheOpen as level
 use Rattle.ap_bits.specs.declared.term.Term.TheViews.{roll-Term}
@@ -92,9 +92,21 @@ module _ (w a b : ℕ) (low : 1 ≤ w) (p : a < 2 ^ w) (q : b < 2 ^ w) where
   abbrev Fits : Term → Type 0
   Fits t = term_value t w a b < 2 ^ w
 
+  -- a level fits where its parts do
+  level_fits : (y : Term-F ((t : Term) × Fits t)) → Fits (roll-Term (map-Term ((t : Term) × Fits t) Term (λ e. e.0) y))
+  unfolding term_value
+  level_fits level.A = subst (λ v. v < 2 ^ w) (sym (fold-roll-Term ℕ (level_value w a b) level.A)) p
+  level_fits level.B = subst (λ v. v < 2 ^ w) (sym (fold-roll-Term ℕ (level_value w a b) level.B)) q
+  level_fits (level.Const c) = subst (λ v. v < 2 ^ w) (sym (fold-roll-Term ℕ (level_value w a b) (level.Const c))) (mod-lt c (pow_pos w))
+  level_fits (level.Un op e) = subst (λ v. v < 2 ^ w) (sym (fold-roll-Term ℕ (level_value w a b) (level.Un op e.0))) (unary_fits op w (term_value e.0 w a b) e.1)
+  level_fits (level.Bin op e f) = subst (λ v. v < 2 ^ w) (sym (fold-roll-Term ℕ (level_value w a b) (level.Bin op e.0 f.0))) (binary_fits op w (term_value e.0 w a b) (term_value f.0 w a b) low e.1 f.1)
+
+  term_fits : (t : Term) → Fits t
+  term_fits t = ind-Term Fits (λ x y is. subst (λ z. Fits (roll-Term z)) is (level_fits y)) t
+
 pub operation_fits : (card : Card) (w op a b : ℕ) → 1 ≤ w → a < 2 ^ w → b < 2 ^ w → operation_value card w op a b < 2 ^ w
 operation_fits card w op a b low p q = by_op (slice_get card.ops op)
   where
     by_op : (o : Option OpCard) → option_map_or (λ (o : OpCard). term_value o.term w a b) o 0 < 2 ^ w
     by_op None = pow_pos w
-    by_op (Some o) = ind-Term (Fits w a b low p q) (λ x y is. ?) o.term
+    by_op (Some o) = term_fits w a b low p q o.term
