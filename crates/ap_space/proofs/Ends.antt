@@ -1,19 +1,18 @@
 -- The law at the end of a run: the entries of each storage, and that they begin those of one at a time.
-use Rattle.std.proofs.Common.{◌≡◌, ℕ, zero, suc, ◌+◌, ◌-◌, ◌≤◌, ◌<◌, ◌==◌, ◌&&◌, Bool, true, false, cond, if◌then◌else◌, nat_lt, List, [], ◌∷◌, ◌++◌, filter, filter_map, map, Option, Some, None, ◌⊎◌, inl, inr, refl, sym, ap, ◌∙◌, subst, arith, append-nil}
-use Rattle.std.proofs.lemmas.Bool.{and_parts, both_ways, cases_Bool, cases_lt, false_from_ne_true, le-ltb, lt-ltb, ltb-true, ltb-false}
+use Rattle.std.proofs.Common.{◌≡◌, ℕ, ◌+◌, ◌-◌, ◌≤◌, ◌<◌, ◌&&◌, Bool, true, false, cond, if◌then◌else◌, List, [], ◌∷◌, ◌++◌, filter, filter_map, map, Option, Some, None, ◌⊎◌, inl, inr, refl, sym, ap, ◌∙◌, arith, append-nil}
+use Rattle.std.proofs.lemmas.Bool.{false_from_ne_true, le-ltb, lt-ltb, ltb-true, ltb-false}
 use Rattle.std.proofs.lemmas.List.{map-append}
 use Rattle.std.proofs.lemmas.List.Elements.{filter-append}
 use Rattle.std.specs.List.{AllByRecursion as Each, cons_option}
 use Rattle.ap_model.specs.declared.state.Entry.{Entry}
-use Rattle.ap_model.specs.declared.state.State.{State}
 use Rattle.ap_model.specs.declared.storage.PortWrite.{PortWrite}
 use Rattle.ap_model.specs.declared.storage.Storage.{Storage}
 use Rattle.ap_model.specs.WritesOf.{goes_to, log_writes, seen_of, writes_of}
-use Rattle.ap_space.specs.Prefix.{IsPrefix, entries_to, has_passed, passed_entries}
+use Rattle.ap_space.specs.Prefix.{IsPrefix, entries_to, has_passed}
 use Rattle.ap_space.proofs.Holds.{meets_at}
 use Rattle.ap_space.proofs.Lists.{EachPair, each_as, each_both, each_filter, filter_none, filter_same, filter_twice, keeps_beginning, pair_as}
 use Rattle.ap_space.proofs.LogRuns.{same_bools}
-use Rattle.ap_space.proofs.Meets.{IsSetting, Meets, OnPath, Setting, Written, all, deep_on_path, far, few_fetched, is_frame, is_passed, passed_deep, path_down, run, samples, state, track, word}
+use Rattle.ap_space.proofs.Meets.{IsSetting, Meets, Setting, Written, all, deep_on_path, far, few_fetched, is_frame, is_passed, passed_deep, path_down, run, samples, state, track, word}
 use Rattle.ap_space.proofs.Parts.{IsBelow, IsLater, log_below, log_from, log_of, log_sorted}
 use Rattle.ap_space.proofs.Partner.{log_written}
 use Rattle.ap_space.proofs.Runs.{next_at}
@@ -148,9 +147,10 @@ module _ (x : Setting) (is : IsSetting x) (place : Storage) where
       let begin = beginning in
       let see : List Entry → List (Option ℕ × ℕ) = map (λ (e : Entry). seen_of place e.write) in
       let kept : filter passes (entries_to place few) ≡ entries_to place (state x is x.c).log =
-      filter_twice passes goes few ∙ (λ k. filter (λ e. and_turned (passes e) (goes e) k) few) ∙ sym (filter_twice goes passes few) ∙ sym log_passed in
-      (see begin.0,
-      ap (λ l. writes_of place (log_writes l)) (sym few_is) ∙ seen_entries place few
-      ∙ ap see (begin.1 ∙ ap (λ es. es ++ begin.0) kept)
-      ∙ map-append (λ (e : Entry). seen_of place e.write) (entries_to place (state x is x.c).log) begin.0
-      ∙ ap (λ ws. ws ++ see begin.0) (sym (seen_entries place (state x is x.c).log)))
+      filter_twice passes goes few ∙ (λ k. filter (λ e. and_turned (passes e) (goes e) k) few) ∙ sym (filter_twice goes passes few) ∙ sym log_passed in (
+        see begin.0,
+        ap (λ l. writes_of place (log_writes l)) (sym few_is) ∙ seen_entries place few
+            ∙ ap see (begin.1 ∙ ap (λ es. es ++ begin.0) kept)
+            ∙ map-append (λ (e : Entry). seen_of place e.write) (entries_to place (state x is x.c).log) begin.0
+            ∙ ap (λ ws. ws ++ see begin.0) (sym (seen_entries place (state x is x.c).log)),
+      )

@@ -1,7 +1,7 @@
 -- What a stage does with a word, from what is known of a clean design: transfers are taken in their stage alone, and nothing is written
 -- where a transfer may still kill.
-use Rattle.std.proofs.Common.{◌≡◌, ℕ, zero, suc, ◌+◌, ◌-◌, ◌≤◌, ◌<◌, ◌==◌, Bool, true, false, ◌&&◌, ◌||◌, cond, nat_lt, nat_le, List, [], ◌∷◌, ◌++◌, filter, filter_map, flat_map, slice_get, Option, Some, None, ◌⊎◌, inl, inr, refl, sym, ap, ◌∙◌, subst, arith}
-use Rattle.std.proofs.lemmas.Bool.{and_parts, both_ways, cond-true, cond-false, eq-eqb, eqb-true, leb-true, lt-ltb, ltb-false, false_from_ne_true, and_from, or_left, or_right}
+use Rattle.std.proofs.Common.{◌≡◌, ℕ, zero, suc, ◌+◌, ◌-◌, ◌≤◌, ◌<◌, ◌==◌, Bool, true, false, ◌&&◌, ◌||◌, cond, nat_lt, nat_le, List, [], ◌∷◌, filter, filter_map, flat_map, slice_get, Option, Some, None, refl, sym, ap, ◌∙◌, subst, arith}
+use Rattle.std.proofs.lemmas.Bool.{and_parts, both_ways, eq-eqb, eqb-true, leb-true, ltb-false, false_from_ne_true, and_from, or_left, or_right}
 use Rattle.std.specs.List.{AllByRecursion as Each, cons_option, list_any}
 use Rattle.std.specs.Option.{option_map_or}
 use Rattle.ap_bits.specs.declared.card.Card.{Card}
@@ -20,12 +20,10 @@ use Rattle.ap_desc.specs.declared.design.Micro.{Micro}
 use Rattle.ap_dist.proofs.Matched.{instr_place}
 use Rattle.ap_dist.specs.Spaced.{is_transfer_word}
 use Rattle.ap_model.proofs.ListLemmas.{flat_map_none}
-use Rattle.ap_model.specs.declared.state.StageEffect.{StageEffect}
-use Rattle.ap_model.specs.declared.storage.PortWrite.{PortWrite}
 use Rattle.ap_model.specs.declared.storage.Storages.{Storages}
 use Rattle.ap_model.specs.Fire.{Sight, arg_value, fire, instr_effect, instr_of, lines_in, locals_after, ordered, target_of, write_of}
 use Rattle.ap_model.specs.Ports.{write_ports}
-use Rattle.ap_space.proofs.Lists.{each_always, each_as, each_both, each_filter, each_left, each_right}
+use Rattle.ap_space.proofs.Lists.{each_as, each_both, each_filter, each_left, each_right}
 
 -- Lists.
 

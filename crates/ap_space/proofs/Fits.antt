@@ -1,6 +1,5 @@
 -- The machine's states fit: what lines give, what flights carry and what storages hold. So a transfer that is taken goes to an address.
-use Rattle.std.proofs.Common.{◌≡◌, ℕ, zero, suc, ◌+◌, ◌-◌, ◌*◌, ◌/◌, ◌%◌, ◌^◌, ◌≤◌, ◌<◌, ◌||◌, Bool, true, false, if◌then◌else◌, IfSome, IsTrue, List, [], ◌∷◌, ◌++◌, length, map, slice_get, slice_index, slice_index_or, Option, Some, None, option_map, option_and_then, refl, sym, ap, ◌∙◌, subst, arith, mod-lt, pow_pos, pow_mono, lt_of_lt_of_le}
-use Rattle.std.specs.List.{AllByRecursion as Each}
+use Rattle.std.proofs.Common.{◌≡◌, ℕ, zero, suc, ◌+◌, ◌-◌, ◌/◌, ◌^◌, ◌≤◌, ◌<◌, ◌||◌, Bool, true, false, if◌then◌else◌, IfSome, IsTrue, List, [], ◌∷◌, length, map, slice_get, Option, Some, None, option_map, refl, sym, subst, arith, mod-lt, pow_pos}
 use Rattle.std.specs.Option.{option_map_or}
 use Rattle.ap_bits.specs.Cards.{operation_value}
 use Rattle.ap_bits.specs.declared.card.Card.{Card}
@@ -21,19 +20,17 @@ use Rattle.ap_model.proofs.StageLemmas.{IsReached, clean_is_runnable, line_typed
 use Rattle.ap_model.specs.DesignShape.{shape_of}
 use Rattle.ap_model.specs.declared.state.Entry.{Entry}
 use Rattle.ap_model.specs.declared.state.Flight.{Flight}
-use Rattle.ap_model.specs.declared.state.StageEffect.{StageEffect}
 use Rattle.ap_model.specs.declared.state.State.{State}
 use Rattle.ap_model.specs.declared.storage.PortWrite.{PortWrite}
-use Rattle.ap_model.specs.declared.storage.Storages.{Storages}
-use Rattle.ap_model.specs.Cycles.{CycleControl, after_control, control_of, cycle_entries, cycle_flights, effect_in, entering, entries_of, entry_of, flight_at, flight_effect, flight_entries, flights_from, from_last, gone_on, is_killed, inputs_at, leaving, over, port_input, staying}
-use Rattle.ap_model.specs.Fire.{Sight, act_value, arg_value, bits_of_arg, fire, instr_effect, instr_of, lines_effect, lines_in, locals_after, unit_value}
-use Rattle.ap_model.specs.Fitting.{EffectFits, EntriesFit, FlightFits, FlightsFit, GoesByLine, IsGood, LocalsFit, LocalsStand, PortsFit, SightFits, StateFits, StoragesFit, WordStands, WritesFit, locals_after_line, port_width, width_of_act}
+use Rattle.ap_model.specs.Cycles.{CycleControl, after_control, cycle_entries, cycle_flights, entering, entries_of, entry_of, flight_effect, flight_entries, flights_from, from_last, gone_on, is_killed, leaving, over, port_input, staying}
+use Rattle.ap_model.specs.Fire.{Sight, act_value, arg_value, bits_of_arg, instr_of, lines_effect, lines_in, locals_after, unit_value}
+use Rattle.ap_model.specs.Fitting.{EffectFits, EntriesFit, FlightFits, FlightsFit, GoesByLine, IsGood, LocalsFit, LocalsStand, PortsFit, SightFits, StateFits, StoragesFit, locals_after_line, port_width, width_of_act}
 use Rattle.ap_model.specs.Runnable.{IsRunnable}
 use Rattle.ap_model.specs.Stored.{with_writes}
 use Rattle.ap_space.proofs.EffectFits.{fired_none, fired_some, sight_fits}
 use Rattle.ap_space.proofs.MachineFits.{inputs_fit, transfer_fits, writes_keep}
 use Rattle.ap_space.proofs.StepFits.{after_fits, entering_fits, start_state_fits}
-use Rattle.ap_space.proofs.Lists.{each_append, each_as, each_map}
+use Rattle.ap_space.proofs.Lists.{each_append, each_map}
 use Rattle.ap_space.proofs.Runs.{TargetsFit, control_at, line_of, state_at, state_next, taken_by_flight}
 use Rattle.ap_space.proofs.Values.{extended_fits, operation_fits}
 

@@ -1,5 +1,5 @@
 -- What becomes of the flights of a state in a cycle, stage by stage; and lists that are told of flights.
-use Rattle.std.proofs.Common.{◌≡◌, ℕ, zero, suc, ◌+◌, ◌-◌, ◌≤◌, ◌<◌, ◌||◌, Bool, true, false, cond, if◌then◌else◌, List, [], ◌∷◌, ◌++◌, length, replicate, slice_index_or, Option, Some, None, option_map, refl, sym, ap, ◌∙◌, subst, arith, append_assoc, append-nil}
+use Rattle.std.proofs.Common.{◌≡◌, ℕ, zero, suc, ◌+◌, ◌-◌, ◌≤◌, ◌<◌, true, false, List, [], ◌∷◌, ◌++◌, length, replicate, slice_index_or, Option, Some, None, option_map, refl, sym, ap, ◌∙◌, subst, arith, append_assoc, append-nil}
 use Rattle.std.proofs.lemmas.Bool.{cond-true, cond-false}
 use Rattle.std.specs.List.{AllByRecursion as Each}
 use Rattle.std.specs.Option.{option_map_or}
@@ -126,6 +126,8 @@ told_at told stage (flight ∷ flights) zero f at =
 told_at told stage (flight ∷ flights) (suc i) f at =
     let rest = told_at told (stage + 1) flights i f at in
     let same : stage + 1 + i ≡ stage + suc i = omega arith in
-    let here = option_map_or (told stage) flight [] in
-    (rest.0, rest.1 ++ here,
-    ap (λ xs. xs ++ here) rest.2 ∙ append_assoc rest.0 (told (stage + 1 + i) f ++ rest.1) here ∙ ap (λ ys. rest.0 ++ ys) (append_assoc (told (stage + 1 + i) f) rest.1 here) ∙ ap (λ s. rest.0 ++ (told s f ++ (rest.1 ++ here))) same)
+    let here = option_map_or (told stage) flight [] in (
+      rest.0,
+      rest.1 ++ here,
+      ap (λ xs. xs ++ here) rest.2 ∙ append_assoc rest.0 (told (stage + 1 + i) f ++ rest.1) here ∙ ap (λ ys. rest.0 ++ ys) (append_assoc (told (stage + 1 + i) f) rest.1 here) ∙ ap (λ s. rest.0 ++ (told s f ++ (rest.1 ++ here))) same,
+    )

@@ -1,5 +1,5 @@
 -- What stands for the rest of a run: numbers that no transfer kills any more, their stages, and their samples.
-use Rattle.std.proofs.Common.{◌≡◌, ℕ, zero, suc, ◌+◌, ◌-◌, ◌≤◌, ◌<◌, Bool, true, false, List, Contains, Option, Some, None, refl, sym, ap, ◌∙◌, subst, arith}
+use Rattle.std.proofs.Common.{◌≡◌, ℕ, zero, suc, ◌+◌, ◌-◌, ◌≤◌, ◌<◌, List, Contains, Some, sym, ap, ◌∙◌, subst, arith}
 use Rattle.std.proofs.lemmas.List.Elements.{All-contains, All-from_recursion}
 use Rattle.ap_bits.specs.declared.card.Card.{Card}
 use Rattle.ap_desc.specs.Clean.{IsClean}
@@ -9,12 +9,12 @@ use Rattle.ap_image.specs.declared.trace.Trace.{Trace}
 use Rattle.ap_model.specs.declared.state.Entry.{Entry}
 use Rattle.ap_model.specs.declared.state.Sample.{Sample}
 use Rattle.ap_model.specs.declared.state.State.{State}
-use Rattle.ap_model.specs.Cycles.{after_control}
 use Rattle.ap_space.proofs.Logged.{IsLogged, logged_deep}
 use Rattle.ap_space.proofs.Runs.{TargetsFit, control_at, decides, line_of, next_at, run_at, state_at, state_next, track_at, turn_at}
 use Rattle.ap_space.proofs.SampleRuns.{found_stays}
 use Rattle.ap_space.proofs.Sampled.{found}
-use Rattle.ap_space.proofs.Tracks.{IsDeep, IsFrame, Track, deep_stays, stage_grows}
+use Rattle.ap_space.proofs.Deep.{IsDeep, deep_stays, stage_grows}
+use Rattle.ap_space.proofs.Tracks.{IsFrame, Track}
 use Rattle.ap_space.proofs.Turns.{frame_of}
 
 module _ (design : Design) (cards : List Card) (image : Image) (trace : Trace) (clean : IsClean design) (is_frame : IsFrame (frame_of design image)) (fits : TargetsFit design cards image trace) where

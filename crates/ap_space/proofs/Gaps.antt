@@ -1,9 +1,9 @@
 -- Words in flight are far enough apart for their distances: through straight code, and across a transfer that was taken, with the drain at
 -- its landing.
-use Rattle.std.proofs.Common.{◌≡◌, ℕ, zero, suc, ◌+◌, ◌-◌, ◌≤◌, ◌<◌, ◌%◌, Bool, true, false, ◌⊎◌, inl, inr, refl, sym, ap, ◌∙◌, subst, arith}
+use Rattle.std.proofs.Common.{◌≡◌, ℕ, suc, ◌+◌, ◌-◌, ◌≤◌, ◌<◌, ◌%◌, Bool, true, false, ◌⊎◌, inl, inr, refl, sym, ap, ◌∙◌, subst, arith}
 use Rattle.std.proofs.lemmas.Bool.{cases_Bool, cases_lt, cases_order, both_ways}
 use Rattle.std.proofs.Math.Nat.{add-mod-mod, mod-eq_of_lt}
-use Rattle.ap_space.proofs.Tracks.{Fetches, Frame, IsFrame, IsHold, IsTrack, IsTurn, Kind, Takes, Track, Waits}
+use Rattle.ap_space.proofs.Tracks.{Fetches, Frame, IsFrame, IsTrack, IsTurn, Kind, Takes, Track, Waits}
 use Rattle.ap_space.proofs.Tracks.Kind.{fetches, takes, waits}
 
 -- by places: the distance of two words, the greatest distance of any word from one, the landings, and the drain

@@ -1,23 +1,19 @@
 -- The pipeline and its partner meet at every cycle of the run.
-use Rattle.std.proofs.Common.{◌≡◌, ℕ, zero, suc, ◌+◌, ◌-◌, ◌≤◌, ◌<◌, ◌&&◌, Bool, true, false, nat_lt, List, [], filter, Option, Some, None, ◌⊎◌, inl, inr, refl, sym, ap, ◌∙◌, subst, arith}
+use Rattle.std.proofs.Common.{◌≡◌, ℕ, zero, suc, ◌≤◌, false, [], Some, None, refl, sym, ap, ◌∙◌, arith}
 use Rattle.std.proofs.lemmas.Bool.{le-ltb}
-use Rattle.std.specs.List.{AllByRecursion as Each}
 use Rattle.ap_model.specs.declared.sequence.Progress.{Progress}
 use Rattle.ap_model.specs.declared.state.Entry.{Entry}
-use Rattle.ap_model.specs.declared.state.Flight.{Flight}
-use Rattle.ap_model.specs.declared.state.State.{State}
-use Rattle.ap_model.specs.declared.storage.Storage.{Storage}
 use Rattle.ap_model.specs.Cycles.{flight_at, over}
 use Rattle.ap_model.specs.States.{start}
 use Rattle.ap_space.specs.Prefix.{entries_to}
 use Rattle.ap_space.proofs.Flights.{empty_at_start}
 use Rattle.ap_space.proofs.Lists.{each_always, filter_none}
 use Rattle.ap_space.proofs.LogRuns.{logs_then}
-use Rattle.ap_space.proofs.Meets.{Agrees, IsSetting, Meets, OnPath, Setting, all, is_passed, pc, samples, state, track}
+use Rattle.ap_space.proofs.Meets.{IsSetting, Meets, Setting, all, is_passed, pc, samples, state, track}
 use Rattle.ap_space.proofs.NextLocals.{locals_then}
 use Rattle.ap_space.proofs.NextPlaces.{gaps_then, places_then, settled_then}
-use Rattle.ap_space.proofs.Parts.{at_number, first_number}
-use Rattle.ap_space.proofs.Runs.{first_place, first_stage, next_first, next_start, track_at}
+use Rattle.ap_space.proofs.Parts.{first_number}
+use Rattle.ap_space.proofs.Runs.{first_place, first_stage, next_start}
 
 module _ (x : Setting) (is : IsSetting x) where
   none_fetched : (track x is 0).next ≡ 0

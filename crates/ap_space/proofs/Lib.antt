@@ -36,3 +36,4 @@ pub mod Law
 pub mod EffectFits
 pub mod MachineFits
 pub mod StepFits
+pub mod Deep

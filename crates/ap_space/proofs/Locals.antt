@@ -1,12 +1,11 @@
 -- Locals that are constants have their values, at each line that looks at them; so a line accesses what its word says. What a stage does
 -- is the same on two storages that agree where its word reads.
-use Rattle.std.proofs.Common.{◌≡◌, ℕ, zero, suc, ◌+◌, ◌-◌, ◌*◌, ◌/◌, ◌%◌, ◌^◌, ◌≤◌, ◌<◌, ◌==◌, ◌&&◌, Bool, true, false, cond, if◌then◌else◌, List, [], ◌∷◌, ◌++◌, length, filter, filter_map, slice_get, slice_index, slice_index_or, Option, Some, None, Contains, option_map, option_and_then, option_to_list, ◌⊎◌, inl, inr, refl, sym, ap, ◌∙◌, subst, arith, append_assoc, append-nil, length-append}
-use Rattle.std.proofs.lemmas.Bool.{and_from, cases_Bool, cases_lt, cond-true, cond-false, eq-eqb, eqb-true, eqb-false}
+use Rattle.std.proofs.Common.{◌≡◌, ℕ, ◌+◌, ◌≤◌, ◌<◌, ◌==◌, Bool, true, false, cond, List, [], ◌∷◌, ◌++◌, length, filter, filter_map, slice_get, slice_index, Option, Some, None, Contains, option_map, option_and_then, option_to_list, ◌⊎◌, inl, inr, refl, sym, ap, ◌∙◌, subst, arith, append_assoc, append-nil, length-append}
+use Rattle.std.proofs.lemmas.Bool.{and_from, cases_lt, cond-true, cond-false, eq-eqb, eqb-true}
 use Rattle.std.proofs.lemmas.List.{get_or_append_left}
 use Rattle.std.proofs.lemmas.List.Elements.{Contains-append_right, filter_map-append}
 use Rattle.std.specs.List.{cons_option}
 use Rattle.std.specs.Option.{option_map_or}
-use Rattle.ap_bits.specs.Operations.{sign_extended}
 use Rattle.ap_bits.specs.declared.card.Card.{Card}
 use Rattle.ap_desc.specs.Chains.{makers}
 use Rattle.ap_desc.specs.Designs.{AreInRange, IsArg, IsInRange, assigned_count, field_value, fields_of}
@@ -18,8 +17,7 @@ use Rattle.ap_desc.specs.declared.design.Design.{Design}
 use Rattle.ap_desc.specs.declared.design.Field.{Field}
 use Rattle.ap_desc.specs.declared.design.Instr.{Instr}
 use Rattle.ap_desc.specs.declared.design.Micro.{Micro}
-use Rattle.ap_dist.proofs.Matched.{word_accesses}
-use Rattle.ap_dist.specs.Accesses.{access_by, access_of, accesses, accesses_of, constant_of, index_of}
+use Rattle.ap_dist.specs.Accesses.{accesses_of, constant_of, index_of}
 use Rattle.ap_dist.specs.Touches.{touches}
 use Rattle.ap_dist.specs.declared.access.Access.{Access}
 use Rattle.ap_dist.specs.declared.access.Part.TheVariants as part
@@ -29,11 +27,9 @@ use Rattle.ap_model.proofs.StageLemmas.{before, within}
 use Rattle.ap_model.specs.declared.storage.Storage.{Storage}
 use Rattle.ap_model.specs.declared.storage.Storage.TheVariants as storage
 use Rattle.ap_model.specs.declared.storage.Storages.{Storages}
-use Rattle.ap_model.specs.Fire.{Sight, act_value, arg_value, bits_of_arg, input_of, link_of, locals_after, unit_value}
+use Rattle.ap_model.specs.Fire.{Sight, act_value, arg_value, input_of, locals_after}
 use Rattle.ap_model.specs.Fitting.{IsGood}
 use Rattle.ap_model.specs.Runnable.{NeverFall}
-use Rattle.ap_model.specs.Stored.{file_cell_value, reg_value}
-use Rattle.ap_space.proofs.Stores.{held_in, same_cell, same_reg, same_words}
 
 -- a word of the image reads or writes a storage in a stage
 pub record IsAccessed (design : Design) (word stage : ℕ) (writes : Bool) (x : Storage) : Type 0 where

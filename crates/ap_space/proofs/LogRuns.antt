@@ -1,23 +1,21 @@
 -- A cycle's writes make the pipeline's log, storage by storage, that of the pairs which are passed after it.
-use Rattle.std.proofs.Common.{◌≡◌, ℕ, zero, suc, ◌+◌, ◌-◌, ◌≤◌, ◌<◌, ◌==◌, ◌&&◌, ◌||◌, not, Bool, true, false, if◌then◌else◌, nat_le, nat_lt, List, [], ◌∷◌, ◌++◌, filter, length, slice_index_or, Option, Some, None, ◌⊎◌, inl, inr, refl, sym, ap, ◌∙◌, subst, arith, append_assoc, append-nil}
-use Rattle.std.proofs.lemmas.Bool.{and_from, and_left, and_parts, and_right, both_ways, cases_Bool, cases_lt, cases_order, eq-eqb, eqb-true, false_from_ne_true, le-leb, le-ltb, leb-true, lt-leb, lt-ltb, ltb-true, not-true, not_from_false, or_cases, or_from, or_left, or_parts, or_right}
+use Rattle.std.proofs.Common.{◌≡◌, ℕ, suc, ◌+◌, ◌-◌, ◌≤◌, ◌<◌, ◌==◌, ◌&&◌, ◌||◌, not, Bool, true, false, if◌then◌else◌, nat_le, List, [], ◌∷◌, ◌++◌, filter, length, slice_index_or, Option, Some, None, ◌⊎◌, inl, inr, refl, sym, ap, ◌∙◌, arith, append_assoc, append-nil}
+use Rattle.std.proofs.lemmas.Bool.{and_from, and_left, and_parts, both_ways, cases_Bool, cases_lt, eq-eqb, eqb-true, le-leb, lt-leb, lt-ltb, ltb-true, not-true, not_from_false, or_cases, or_from, or_left, or_parts, or_right}
 use Rattle.std.proofs.lemmas.List.Elements.{filter-append}
-use Rattle.std.specs.List.{AllByRecursion as Each}
 use Rattle.std.specs.Option.{option_map_or}
 use Rattle.ap_model.specs.declared.state.Entry.{Entry}
 use Rattle.ap_model.specs.declared.state.Flight.{Flight}
-use Rattle.ap_model.specs.declared.state.State.{State}
 use Rattle.ap_model.specs.declared.storage.Storage.{Storage}
 use Rattle.ap_model.specs.Cycles.{cycle_entries, entries_of, flight_at, flight_effect, flight_entries, from_last, is_killed}
 use Rattle.ap_model.specs.WritesOf.{goes_to}
 use Rattle.ap_space.specs.Prefix.{entries_to}
 use Rattle.ap_space.proofs.Lists.{each_as, filter_same, filter_twice}
-use Rattle.ap_space.proofs.LogSteps.{IsIn, all_in, fires_now, goes, here, kept_from, none_fires, one_fires, passes_from, stops}
-use Rattle.ap_space.proofs.Meets.{Deep, IsSetting, Meets, Setting, Written, all, control, frame, inputs, is_frame, is_passed, passed_deep, run, state, track, turn}
+use Rattle.ap_space.proofs.LogSteps.{IsIn, all_in, fires_now, kept_from, none_fires, one_fires, passes_from}
+use Rattle.ap_space.proofs.Meets.{Deep, IsSetting, Meets, Setting, all, control, frame, inputs, is_frame, is_passed, passed_deep, run, state, track, turn}
 use Rattle.ap_space.proofs.Futures.{deep_next}
 use Rattle.ap_space.proofs.Runs.{fires_at, left_at, log_at}
 use Rattle.ap_space.proofs.SampleRuns.{IsFiring}
-use Rattle.ap_space.proofs.Tracks.{stage_grows}
+use Rattle.ap_space.proofs.Deep.{stage_grows}
 
 pub same_bools : (a b : Bool) → (a ≡ true → b ≡ true) → (b ≡ true → a ≡ true) → a ≡ b
 same_bools true b up down = sym (up refl)

@@ -1,23 +1,18 @@
 -- A cycle's writes, storage by storage, are those that the partner's log has at the pairs which fire in it, and they come behind all that
 -- were passed before.
-use Rattle.std.proofs.Common.{◌≡◌, ℕ, zero, suc, ◌+◌, ◌-◌, ◌≤◌, ◌<◌, ◌==◌, ◌&&◌, ◌||◌, not, Bool, true, false, cond, if◌then◌else◌, nat_le, nat_lt, List, [], ◌∷◌, ◌++◌, filter, length, map, slice_index_or, Option, Some, None, ◌⊎◌, inl, inr, refl, sym, ap, ◌∙◌, subst, arith, append-nil}
-use Rattle.std.proofs.lemmas.Bool.{and_from, and_left, and_parts, and_right, both_ways, cases_Bool, cases_lt, cases_order, cond-true, cond-false, eq-eqb, eqb-true, false_from_ne_true, le-leb, le-ltb, leb-true, lt-leb, lt-ltb, ltb-true, not-true, not_from_false, or_cases, or_from, or_left, or_right}
-use Rattle.std.proofs.lemmas.List.Elements.{filter-append}
+use Rattle.std.proofs.Common.{◌≡◌, ℕ, suc, ◌+◌, ◌≤◌, ◌<◌, ◌==◌, ◌&&◌, ◌||◌, not, Bool, true, false, cond, nat_le, List, [], ◌∷◌, ◌++◌, filter, map, ◌⊎◌, inl, inr, refl, sym, ap, ◌∙◌, subst, arith, append-nil}
+use Rattle.std.proofs.lemmas.Bool.{and_from, and_left, and_parts, and_right, cases_lt, cases_order, eq-eqb, eqb-true, false_from_ne_true, le-leb, le-ltb, leb-true, lt-leb, ltb-true, not-true, not_from_false, or_cases, or_from, or_right}
 use Rattle.std.specs.List.{AllByRecursion as Each}
-use Rattle.std.specs.Option.{option_map_or}
 use Rattle.ap_model.specs.declared.state.Entry.{Entry}
 use Rattle.ap_model.specs.declared.state.Flight.{Flight}
-use Rattle.ap_model.specs.declared.state.StageEffect.{StageEffect}
-use Rattle.ap_model.specs.declared.state.State.{State}
-use Rattle.ap_model.specs.declared.storage.PortWrite.{PortWrite}
 use Rattle.ap_model.specs.declared.storage.Storage.{Storage}
-use Rattle.ap_model.specs.Cycles.{entries_of, entry_of, flight_at, flight_effect, flight_entries, from_last, is_killed, port_input}
+use Rattle.ap_model.specs.Cycles.{entries_of, entry_of, flight_effect, is_killed, port_input}
 use Rattle.ap_model.specs.WritesOf.{goes_to}
 use Rattle.ap_space.specs.Prefix.{entries_to}
 use Rattle.ap_space.proofs.Fired.{early_writes_nothing}
 use Rattle.ap_space.proofs.Lists.{each_append, each_as, each_both, each_left, each_right, filter_none, filter_parts, filter_same}
 use Rattle.ap_space.proofs.Locals.{IsAccessed}
-use Rattle.ap_space.proofs.Meets.{Agrees, Deep, IsSetting, Meets, OnPath, Setting, Written, all, control, deep_agrees, deep_on_path, effect, few_fetched, fires_as_partner, frame, inputs, is_frame, is_passed, part, passed_younger, run, samples, state, track, turn, word}
+use Rattle.ap_space.proofs.Meets.{Deep, IsSetting, Meets, OnPath, Setting, Written, all, control, deep_agrees, deep_on_path, effect, few_fetched, fires_as_partner, inputs, is_frame, is_passed, part, passed_younger, run, samples, state, track, word}
 use Rattle.ap_space.proofs.Parts.{IsAtPair, IsBefore, IsBehind, IsBelow, IsOf, at_pair, before_pair, entries_are, log_below, log_of}
 use Rattle.ap_space.proofs.Partner.{block_none, block_written, log_written}
 use Rattle.ap_space.proofs.PathSteps.{path_before}

@@ -1,5 +1,5 @@
 -- Whatever was written stands: the instruction is so far that no transfer kills it any more.
-use Rattle.std.proofs.Common.{◌≡◌, ℕ, zero, suc, ◌+◌, ◌-◌, ◌≤◌, ◌<◌, ◌||◌, Bool, true, false, if◌then◌else◌, List, [], ◌∷◌, ◌++◌, length, map, slice_index_or, Option, Some, None, ◌⊎◌, inl, inr, refl, sym, ap, ◌∙◌, subst, arith}
+use Rattle.std.proofs.Common.{◌≡◌, ℕ, suc, ◌+◌, ◌-◌, ◌≤◌, ◌<◌, ◌||◌, Bool, true, false, if◌then◌else◌, List, [], ◌++◌, length, map, slice_index_or, Some, None, ◌⊎◌, inl, inr, refl, sym, ap, ◌∙◌, subst, arith}
 use Rattle.std.proofs.lemmas.Bool.{cases_lt}
 use Rattle.std.specs.List.{AllByRecursion as Each}
 use Rattle.std.specs.Option.{option_map_or}
@@ -18,7 +18,8 @@ use Rattle.ap_space.proofs.Flights.{each_told}
 use Rattle.ap_space.proofs.Lists.{each_always, each_append, each_as, each_map}
 use Rattle.ap_space.proofs.SampleRuns.{IsFiring}
 use Rattle.ap_space.proofs.Tracked.{is_left}
-use Rattle.ap_space.proofs.Tracks.{IsDeep, IsFrame, IsTrack, IsTurn, Track, deep_stays, stage_grows}
+use Rattle.ap_space.proofs.Deep.{IsDeep, deep_stays, stage_grows}
+use Rattle.ap_space.proofs.Tracks.{IsFrame, IsTrack, IsTurn, Track}
 use Rattle.ap_space.proofs.Turns.{IsControl, IsTracked, frame_of, is_turn, next_track}
 
 -- an entry of a stage that its number has passed, in which no transfer kills it

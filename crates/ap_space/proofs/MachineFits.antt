@@ -1,5 +1,5 @@
 -- A machine's state fits, cycle by cycle.
-use Rattle.std.proofs.Common.{◌≡◌, ℕ, zero, suc, ◌+◌, ◌-◌, ◌≤◌, ◌<◌, ◌^◌, ◌||◌, Bool, true, false, if◌then◌else◌, IsTrue, IfSome, List, [], ◌∷◌, map, fold, max, replicate, set, get_or, slice_get, slice_index, slice_index_or, Option, Some, None, ap, sym, subst, arith, leb-true, ltb-true, pow_pos, pow_mono, lt_of_lt_of_le}
+use Rattle.std.proofs.Common.{◌≡◌, ℕ, zero, suc, ◌+◌, ◌-◌, ◌≤◌, ◌<◌, ◌^◌, true, IsTrue, IfSome, List, [], ◌∷◌, map, fold, replicate, set, get_or, slice_get, slice_index, slice_index_or, Option, Some, None, ap, sym, subst, arith, leb-true, ltb-true, pow_pos, pow_mono, lt_of_lt_of_le}
 use Rattle.std.proofs.lemmas.Bool.{and_parts}
 use Rattle.std.specs.List.{AllByRecursion as Each, list_all}
 use Rattle.ap_bits.specs.declared.card.Card.{Card}
@@ -21,13 +21,12 @@ use Rattle.ap_model.specs.declared.storage.PortWrite.{PortWrite}
 use Rattle.ap_model.specs.declared.storage.Storages.{Storages}
 use Rattle.ap_model.specs.declared.storage.WritePort.{WritePort}
 use Rattle.ap_model.specs.declared.storage.WritePort.TheVariants as port
-use Rattle.ap_model.specs.Cycles.{CycleControl, fetched, flight_at, unkilled_numbers, inputs_at, is_killed, unkilled_number, from_last}
+use Rattle.ap_model.specs.Cycles.{fetched, flight_at, inputs_at}
 use Rattle.ap_model.specs.DesignShape.{shape_of}
-use Rattle.ap_model.specs.Fitting.{FlightFits, FlightsFit, PortsFit, StoragesFit, WordStands, WritesFit, CountsWithin, StateFits, assigned_by, lines_before, port_width}
+use Rattle.ap_model.specs.Fitting.{FlightFits, FlightsFit, PortsFit, StoragesFit, WordStands, WritesFit, StateFits, assigned_by, lines_before, port_width}
 use Rattle.ap_model.specs.States.{start_storages}
 use Rattle.ap_image.specs.Words.{with_word}
 use Rattle.ap_model.specs.Stored.{with_value, with_write, with_writes}
-use Rattle.ap_space.proofs.EffectFits.{each_append}
 use Rattle.ap_model.proofs.StageLemmas.{none_at_first, word_is_good}
 
 -- Storages after writes.

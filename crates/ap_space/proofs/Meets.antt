@@ -1,8 +1,8 @@
 -- What the pipeline and its partner, one at a time with the samples of the whole run, have in common at a cycle; and that a flight which
 -- fires then does what the partner's instruction does.
-use Rattle.std.proofs.Common.{◌≡◌, ℕ, zero, suc, ◌+◌, ◌-◌, ◌≤◌, ◌<◌, ◌==◌, ◌&&◌, ◌%◌, ◌^◌, Bool, true, false, nat_lt, List, [], ◌∷◌, ◌++◌, filter, slice_index, Option, Some, None, ◌⊎◌, inl, inr, refl, sym, ap, ◌∙◌, subst, arith, append-nil}
+use Rattle.std.proofs.Common.{◌≡◌, ℕ, zero, suc, ◌+◌, ◌-◌, ◌≤◌, ◌<◌, ◌&&◌, Bool, true, false, nat_lt, List, ◌++◌, filter, slice_index, Option, Some, None, ◌⊎◌, inl, inr, refl, sym, ap, ◌∙◌, subst, arith, append-nil}
 use Rattle.std.proofs.Math.Nat.{mod-eq_of_lt}
-use Rattle.std.proofs.lemmas.Bool.{and_left, and_right, cases_Bool, cases_lt, both_ways, false_from_ne_true, lt-ltb, le-ltb, ltb-true, ltb-false}
+use Rattle.std.proofs.lemmas.Bool.{and_left, and_right, cases_Bool, cases_lt, lt-ltb, le-ltb}
 use Rattle.std.specs.List.{AllByRecursion as Each}
 use Rattle.std.specs.Option.{option_map_or}
 use Rattle.ap_bits.specs.declared.card.Card.{Card}
@@ -23,10 +23,9 @@ use Rattle.ap_model.specs.Cycles.{CycleControl, entries_of, flight_at, flight_ef
 use Rattle.ap_model.specs.Fire.{fire}
 use Rattle.ap_model.specs.Landings.{LandsOn}
 use Rattle.ap_model.specs.Runnable.{IsRunnable}
-use Rattle.ap_model.specs.Sequence.{Partway, sample_input, sample_value}
+use Rattle.ap_model.specs.Sequence.{Partway, sample_input}
 use Rattle.ap_model.specs.States.{start_storages}
-use Rattle.ap_model.specs.Stored.{with_writes}
-use Rattle.ap_model.specs.WritesOf.{goes_to, log_writes}
+use Rattle.ap_model.specs.WritesOf.{goes_to}
 use Rattle.ap_space.specs.Prefix.{entries_to}
 use Rattle.ap_space.proofs.Futures.{found_later, found_next}
 use Rattle.ap_space.proofs.Gaps.{HasGaps, far_apart}
@@ -41,7 +40,8 @@ use Rattle.ap_space.proofs.SampleRuns.{IsFiring, fresh_sample}
 use Rattle.ap_space.proofs.Sampled.{found}
 use Rattle.ap_space.proofs.Spacings.{access_before_write, spacing_is, spacing_of, write_before_read}
 use Rattle.ap_space.proofs.Stores.{held_in, over_storages, part_storages, same_held}
-use Rattle.ap_space.proofs.Tracks.{Fetches, Frame, IsDeep, IsFrame, IsTurn, Kind, Takes, Track, Waits}
+use Rattle.ap_space.proofs.Deep.{IsDeep}
+use Rattle.ap_space.proofs.Tracks.{Frame, IsFrame, IsTurn, Kind, Track}
 use Rattle.ap_space.proofs.Tracks.Kind.{fetches, takes, waits}
 use Rattle.ap_space.proofs.Turns.{IsFlightOf, frame_of}
 

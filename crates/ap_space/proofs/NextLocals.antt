@@ -1,14 +1,13 @@
 -- After a cycle the locals of flights are again those of the partner's instructions.
-use Rattle.std.proofs.Common.{◌≡◌, ℕ, zero, suc, ◌+◌, ◌≤◌, ◌<◌, ◌||◌, Bool, true, false, if◌then◌else◌, List, [], Option, Some, None, option_map, ◌⊎◌, inl, inr, refl, sym, ap, ◌∙◌, subst, arith}
+use Rattle.std.proofs.Common.{◌≡◌, ℕ, zero, suc, ◌<◌, true, false, Option, Some, None, ◌⊎◌, inl, inr, refl, sym, ap, ◌∙◌, subst, arith}
 use Rattle.std.proofs.lemmas.Bool.{cases_Bool}
 use Rattle.ap_model.specs.declared.state.Flight.{Flight}
 use Rattle.ap_model.specs.declared.state.StageEffect.{StageEffect}
 use Rattle.ap_model.specs.declared.state.State.{State}
-use Rattle.ap_model.specs.Cycles.{effect_in, fetched, flight_at, flight_effect, gone_on, is_killed, leaving, staying}
+use Rattle.ap_model.specs.Cycles.{fetched, flight_at, flight_effect, gone_on, is_killed, leaving, staying}
 use Rattle.ap_model.specs.Sequence.{Partway}
-use Rattle.ap_space.proofs.Fired.{branch_high, branch_low}
 use Rattle.ap_space.proofs.Flights.{comes_at, enters_at, stays_at}
-use Rattle.ap_space.proofs.Meets.{Agrees, IsSetting, Meets, OnPath, Setting, agrees_before, control, effect, fires_as_partner, inputs, is_frame, part, run, samples, state, track}
+use Rattle.ap_space.proofs.Meets.{Agrees, IsSetting, Meets, OnPath, Setting, agrees_before, control, fires_as_partner, inputs, is_frame, part, run, samples, state, track}
 use Rattle.ap_space.proofs.Parts.{part_more, part_none}
 use Rattle.ap_space.proofs.PathSteps.{path_before}
 use Rattle.ap_space.proofs.Runs.{decides, state_next}

@@ -1,36 +1,19 @@
 -- After a cycle the places, the transfers that are over, the locals and the gaps are again as the partner has them.
-use Rattle.std.proofs.Common.{◌≡◌, ℕ, zero, suc, ◌+◌, ◌-◌, ◌≤◌, ◌<◌, ◌==◌, ◌&&◌, ◌||◌, ◌%◌, ◌^◌, Bool, true, false, if◌then◌else◌, nat_lt, List, [], ◌∷◌, ◌++◌, Contains, IfSome, IsTrue, filter, slice_index, Option, Some, None, is_some, option_map, ◌⊎◌, inl, inr, refl, sym, ap, ◌∙◌, subst, arith}
-use Rattle.std.proofs.Math.Nat.{mod-eq_of_lt}
-use Rattle.std.proofs.lemmas.Bool.{and_parts, both_ways, cases_Bool, cases_lt, cases_order, eqb-true, le-ltb, or_cases}
-use Rattle.std.specs.List.{AllByRecursion as Each, list_any}
-use Rattle.ap_bits.specs.declared.card.Card.{Card}
-use Rattle.ap_desc.specs.declared.design.Design.{Design}
+use Rattle.std.proofs.Common.{◌≡◌, ℕ, suc, ◌+◌, ◌≤◌, ◌<◌, ◌%◌, ◌^◌, Bool, true, false, Option, Some, None, ◌⊎◌, inl, inr, refl, sym, ap, ◌∙◌, subst, arith}
+use Rattle.std.proofs.lemmas.Bool.{cases_Bool, cases_lt}
 use Rattle.ap_dist.specs.Spaced.{is_transfer_word, word_at}
-use Rattle.ap_image.specs.declared.image.Image.{Image}
-use Rattle.ap_image.specs.declared.trace.TraceLine.{TraceLine}
-use Rattle.ap_model.specs.declared.sequence.Pending.{Pending}
 use Rattle.ap_model.specs.declared.sequence.Progress.{Progress}
-use Rattle.ap_model.specs.declared.state.Flight.{Flight}
-use Rattle.ap_model.specs.declared.state.Pass.{Pass}
-use Rattle.ap_model.specs.declared.state.StageEffect.{StageEffect}
-use Rattle.ap_model.specs.declared.state.State.{State}
-use Rattle.ap_model.specs.Cycles.{fetched, flight_at, flight_effect, gone_on, is_killed, leaving, staying}
-use Rattle.ap_model.specs.Landings.{taken_by}
-use Rattle.ap_model.specs.Sequence.{Partway, pc_after, pending_after}
+use Rattle.ap_model.specs.Sequence.{pc_after, pending_after}
 use Rattle.ap_space.proofs.Fired.{branch_high, branch_low}
-use Rattle.ap_space.proofs.Flights.{comes_at, enters_at, stays_at}
-use Rattle.ap_space.proofs.Futures.{deep_next, stage_later}
 use Rattle.ap_space.proofs.Gaps.{HasGaps, Landed, lands_fetching, lands_taking, lands_waiting, turn_gaps}
-use Rattle.ap_space.proofs.Meets.{Agrees, Deep, IsSetting, Meets, OnPath, Setting, agrees_before, control, deep_agrees, deep_on_path, effect, few_fetched, fires_as_partner, frame, inputs, is_frame, part, path_down, pc, run, samples, state, target, track, turn, word, word_is}
-use Rattle.ap_space.proofs.Partner.{target_is, target_transfers}
-use Rattle.ap_space.proofs.Parts.{at_number, first_number, next_number, part_more, part_none, taken_is}
-use Rattle.ap_space.proofs.PathSteps.{branch_none, landing, older_past, path_before, slots_on_path, taken, taker_target, younger_low}
+use Rattle.ap_space.proofs.Meets.{IsSetting, Meets, OnPath, Setting, control, frame, is_frame, path_down, pc, run, samples, target, track, turn, word_is}
+use Rattle.ap_space.proofs.Partner.{target_transfers}
+use Rattle.ap_space.proofs.Parts.{at_number, first_number, next_number}
+use Rattle.ap_space.proofs.PathSteps.{branch_none, landing, path_before, slots_on_path, taken, taker_target, younger_low}
 use Rattle.ap_space.proofs.Paths.{goes_straight, goes_to_target}
-use Rattle.ap_space.proofs.Runs.{decides, fetches_at, state_next, takes_at, untaken, waits_at, word_mod}
-use Rattle.ap_space.proofs.SampleRuns.{IsFiring}
+use Rattle.ap_space.proofs.Runs.{decides, fetches_at, waits_at}
 use Rattle.ap_space.proofs.Spacings.{spacing_is, spacing_of}
-use Rattle.ap_space.proofs.Tracked.{entered_from, left_from, left_of, none_taken, stayed_from}
-use Rattle.ap_space.proofs.Tracks.{Fetches, Takes, Waits, stage_grows}
+use Rattle.ap_space.proofs.Tracks.{Fetches, Takes}
 
 module _ (x : Setting) (is : IsSetting x) (j : ℕ) (less : j < x.c) (meets : Meets x is j) where
   abbrev here : ℕ → ℕ

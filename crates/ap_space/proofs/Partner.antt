@@ -1,11 +1,10 @@
 -- One at a time, as the pipeline's partner: what each entry of the log has, the transfers that are taken, and the places.
-use Rattle.std.proofs.Common.{◌≡◌, ℕ, zero, suc, ◌+◌, ◌-◌, ◌≤◌, ◌<◌, ◌%◌, ◌^◌, Bool, true, false, List, [], ◌∷◌, ◌++◌, length, map, slice_index, Option, Some, None, ◌⊎◌, inl, inr, refl, sym, ap, ◌∙◌, subst, arith}
-use Rattle.std.proofs.lemmas.Bool.{cases_eq, cases_lt}
+use Rattle.std.proofs.Common.{◌≡◌, ℕ, zero, suc, ◌+◌, ◌-◌, ◌≤◌, ◌<◌, true, List, [], map, Option, Some, None, ◌⊎◌, inl, inr, refl, sym, ap, ◌∙◌, subst, arith}
+use Rattle.std.proofs.lemmas.Bool.{cases_lt}
 use Rattle.std.specs.List.{AllByRecursion as Each}
 use Rattle.ap_bits.specs.declared.card.Card.{Card}
 use Rattle.ap_desc.specs.Clean.{IsClean}
 use Rattle.ap_desc.specs.declared.design.Design.{Design}
-use Rattle.ap_desc.specs.declared.design.Instr.{Instr}
 use Rattle.ap_dist.specs.Spaced.{is_transfer_word}
 use Rattle.ap_image.specs.declared.image.Image.{Image}
 use Rattle.ap_model.proofs.LineOrder.{count}
@@ -14,11 +13,8 @@ use Rattle.ap_model.specs.declared.sequence.Progress.{Progress}
 use Rattle.ap_model.specs.declared.state.Entry.{Entry}
 use Rattle.ap_model.specs.declared.state.Sample.{Sample}
 use Rattle.ap_model.specs.declared.state.StageEffect.{StageEffect}
-use Rattle.ap_model.specs.declared.storage.PortWrite.{PortWrite}
 use Rattle.ap_model.specs.declared.storage.Storage.{Storage}
 use Rattle.ap_model.specs.Cycles.{entries_of, entry_of}
-use Rattle.ap_model.specs.Fire.{fire}
-use Rattle.ap_model.specs.Fitting.{IsGood}
 use Rattle.ap_model.specs.Runnable.{IsRunnable}
 use Rattle.ap_model.specs.Sequence.{Partway, first_some, sample_input}
 use Rattle.ap_model.specs.WritesOf.{goes_to}

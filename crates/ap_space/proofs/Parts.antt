@@ -1,11 +1,10 @@
 -- One instruction at a time, stage by stage: what it has done after some stages, and where its writes stand in the log.
-use Rattle.std.proofs.Common.{◌≡◌, ℕ, zero, suc, ◌+◌, ◌-◌, ◌≤◌, ◌<◌, List, [], ◌∷◌, ◌++◌, map, fold, slice_index, Option, Some, None, ◌⊎◌, inl, inr, refl, sym, ap, ◌∙◌, subst, arith, append_assoc, append-nil}
+use Rattle.std.proofs.Common.{◌≡◌, ℕ, zero, suc, ◌+◌, ◌-◌, ◌≤◌, ◌<◌, List, [], ◌∷◌, ◌++◌, fold, slice_index, None, ◌⊎◌, inl, inr, refl, sym, ap, ◌∙◌, subst, arith, append_assoc, append-nil}
 use Rattle.std.proofs.lemmas.List.Sums.{fold-append}
 use Rattle.std.specs.List.{AllByRecursion as Each, range_with_len}
 use Rattle.ap_bits.specs.declared.card.Card.{Card}
 use Rattle.ap_desc.specs.declared.design.Design.{Design}
 use Rattle.ap_image.specs.declared.image.Image.{Image}
-use Rattle.ap_model.specs.declared.sequence.Pending.{Pending}
 use Rattle.ap_model.specs.declared.sequence.Progress.{Progress}
 use Rattle.ap_model.specs.declared.state.Entry.{Entry}
 use Rattle.ap_model.specs.declared.state.Sample.{Sample}
@@ -15,8 +14,7 @@ use Rattle.ap_model.specs.declared.storage.Storages.{Storages}
 use Rattle.ap_model.specs.Cycles.{entries_of, entry_of}
 use Rattle.ap_model.specs.Fire.{fire}
 use Rattle.ap_model.specs.Landings.{taken_by}
-use Rattle.ap_model.specs.Sequence.{Partway, after_instruction, next_instruction, pc_after, pending_after, sample_input, sequential, sequential_start, through_stage, whole_instruction}
-use Rattle.ap_model.specs.States.{start_storages}
+use Rattle.ap_model.specs.Sequence.{Partway, after_instruction, next_instruction, sample_input, sequential, sequential_start, through_stage, whole_instruction}
 use Rattle.ap_space.proofs.Lists.{EachPair, each_always, each_append, each_as, each_map, pair_always, pair_append}
 
 pub range_more : (a n : ℕ) → range_with_len a (n + 1) ≡ range_with_len a n ++ (a + n) ∷ []
@@ -164,13 +162,14 @@ module _ (design : Design) (cards : List Card) (image : Image) (samples : List S
   part_rest i s (suc r) =
       let before = part_rest i s r in
       let more : suc s + suc r ≡ suc (suc s + r) = omega arith in
-      let block = entries_of (suc (suc s + r)) i (effect_of i (suc s + r)) in
-      (before.0 ++ block,
-      ap (λ n. (part_of i n).log) more ∙ part_log i (suc s + r) ∙ ap (λ xs. xs ++ block) before.1
-      ∙ append_assoc (part_of i s).log (entries_of (suc s) i (effect_of i s) ++ before.0) block
-      ∙ ap (λ ys. (part_of i s).log ++ ys) (append_assoc (entries_of (suc s) i (effect_of i s)) before.0 block),
-      each_append (IsBehind i (suc s)) before.0 block before.2
-      (each_as (IsOf i (suc (suc s + r))) (IsBehind i (suc s)) (λ e h. inr (h.0, (let is = h.1 in omega arith))) block (entries_are i (suc (suc s + r)) (effect_of i (suc s + r)))))
+      let block = entries_of (suc (suc s + r)) i (effect_of i (suc s + r)) in (
+        before.0 ++ block,
+        ap (λ n. (part_of i n).log) more ∙ part_log i (suc s + r) ∙ ap (λ xs. xs ++ block) before.1
+            ∙ append_assoc (part_of i s).log (entries_of (suc s) i (effect_of i s) ++ before.0) block
+            ∙ ap (λ ys. (part_of i s).log ++ ys) (append_assoc (entries_of (suc s) i (effect_of i s)) before.0 block),
+        each_append (IsBehind i (suc s)) before.0 block before.2
+            (each_as (IsOf i (suc (suc s + r))) (IsBehind i (suc s)) (λ e h. inr (h.0, (let is = h.1 in omega arith))) block (entries_are i (suc (suc s + r)) (effect_of i (suc s + r)))),
+      )
 
   log_rest : (i r : ℕ) → (rest : List Entry) × (log_of (suc i + r) ≡ log_of i ++ ((part_of i (design.stages - 1)).log ++ rest)) × Each (λ (e : Entry). i < e.number) rest
   log_rest i zero =
@@ -179,13 +178,14 @@ module _ (design : Design) (cards : List Card) (image : Image) (samples : List S
   log_rest i (suc r) =
       let before = log_rest i r in
       let more : suc i + suc r ≡ suc (suc i + r) = omega arith in
-      let block = (part_of (suc i + r) (design.stages - 1)).log in
-      (before.0 ++ block,
-      ap log_of more ∙ log_more (suc i + r) ∙ ap (λ xs. xs ++ block) before.1
-      ∙ append_assoc (log_of i) ((part_of i (design.stages - 1)).log ++ before.0) block
-      ∙ ap (λ ys. log_of i ++ ys) (append_assoc (part_of i (design.stages - 1)).log before.0 block),
-      each_append (λ (e : Entry). i < e.number) before.0 block before.2
-      (each_as (IsWithin (suc i + r) (design.stages - 1)) (λ (e : Entry). i < e.number) (λ e h. (let is = h.0 in omega arith)) block (part_within (suc i + r) (design.stages - 1))))
+      let block = (part_of (suc i + r) (design.stages - 1)).log in (
+        before.0 ++ block,
+        ap log_of more ∙ log_more (suc i + r) ∙ ap (λ xs. xs ++ block) before.1
+            ∙ append_assoc (log_of i) ((part_of i (design.stages - 1)).log ++ before.0) block
+            ∙ ap (λ ys. log_of i ++ ys) (append_assoc (part_of i (design.stages - 1)).log before.0 block),
+        each_append (λ (e : Entry). i < e.number) before.0 block before.2
+            (each_as (IsWithin (suc i + r) (design.stages - 1)) (λ (e : Entry). i < e.number) (λ e h. (let is = h.0 in omega arith)) block (part_within (suc i + r) (design.stages - 1))),
+      )
 
   -- later instructions add entries behind
   pub log_from : (n r : ℕ) → (rest : List Entry) × (log_of (n + r) ≡ log_of n ++ rest) × Each (λ (e : Entry). n ≤ e.number) rest
@@ -193,11 +193,12 @@ module _ (design : Design) (cards : List Card) (image : Image) (samples : List S
   log_from n (suc r) =
       let before = log_from n r in
       let more : n + suc r ≡ suc (n + r) = omega arith in
-      let block = (part_of (n + r) (design.stages - 1)).log in
-      (before.0 ++ block,
-      ap log_of more ∙ log_more (n + r) ∙ ap (λ xs. xs ++ block) before.1 ∙ append_assoc (log_of n) before.0 block,
-      each_append (λ (e : Entry). n ≤ e.number) before.0 block before.2
-      (each_as (IsWithin (n + r) (design.stages - 1)) (λ (e : Entry). n ≤ e.number) (λ e h. (let is = h.0 in omega arith)) block (part_within (n + r) (design.stages - 1))))
+      let block = (part_of (n + r) (design.stages - 1)).log in (
+        before.0 ++ block,
+        ap log_of more ∙ log_more (n + r) ∙ ap (λ xs. xs ++ block) before.1 ∙ append_assoc (log_of n) before.0 block,
+        each_append (λ (e : Entry). n ≤ e.number) before.0 block before.2
+            (each_as (IsWithin (n + r) (design.stages - 1)) (λ (e : Entry). n ≤ e.number) (λ e h. (let is = h.0 in omega arith)) block (part_within (n + r) (design.stages - 1))),
+      )
 
   -- the entries of a pair in the log: what stands before them, and what behind
   pub record IsAtPair (n i s : ℕ) : Type 0 where

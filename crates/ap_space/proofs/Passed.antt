@@ -1,5 +1,5 @@
 -- The stages that the track says were passed are those that the machine keeps.
-use Rattle.std.proofs.Common.{◌≡◌, ℕ, zero, suc, ◌+◌, ◌-◌, ◌≤◌, ◌<◌, ◌==◌, ◌||◌, ◌&&◌, Bool, true, false, cond, if◌then◌else◌, nat_lt, List, [], ◌∷◌, ◌++◌, length, filter, slice_index_or, Option, Some, None, is_some, ◌⊎◌, inl, inr, refl, sym, ap, ◌∙◌, subst, arith}
+use Rattle.std.proofs.Common.{◌≡◌, ℕ, suc, ◌+◌, ◌-◌, ◌≤◌, ◌<◌, ◌==◌, ◌||◌, ◌&&◌, Bool, true, false, cond, if◌then◌else◌, nat_lt, List, [], ◌∷◌, ◌++◌, length, filter, slice_index_or, Option, Some, None, is_some, ◌⊎◌, inl, inr, refl, sym, ap, ◌∙◌, subst, arith}
 use Rattle.std.proofs.lemmas.Bool.{and_from, and_parts, both_ways, cases_Bool, cases_lt, cond-true, cond-false, eq-eqb, eqb-true, false_from_ne_true, le-ltb, lt-ltb, or_cases, or_left, or_right, or_from}
 use Rattle.std.specs.List.{AllByRecursion as Each, list_any}
 use Rattle.ap_bits.specs.declared.card.Card.{Card}
@@ -10,10 +10,11 @@ use Rattle.ap_image.specs.declared.trace.TraceLine.{TraceLine}
 use Rattle.ap_model.specs.declared.state.Flight.{Flight}
 use Rattle.ap_model.specs.declared.state.Pass.{Pass}
 use Rattle.ap_model.specs.declared.state.State.{State}
-use Rattle.ap_model.specs.Cycles.{CycleControl, after_control, cycle_passes, flight_at, flight_passes, from_last, is_killed, kept}
+use Rattle.ap_model.specs.Cycles.{CycleControl, after_control, cycle_passes, flight_at, flight_passes, is_killed, kept}
 use Rattle.ap_space.proofs.Flights.{each_told, told_at}
 use Rattle.ap_space.proofs.Tracked.{left_of}
-use Rattle.ap_space.proofs.Tracks.{IsTrack, IsTurn, Track, stage_grows}
+use Rattle.ap_space.proofs.Deep.{stage_grows}
+use Rattle.ap_space.proofs.Tracks.{IsTrack, IsTurn, Track}
 use Rattle.ap_space.proofs.Turns.{IsControl, IsTracked, frame_of, is_turn, next_quiet, next_track}
 
 abbrev pub is_pass : ℕ → ℕ → Pass → Bool

@@ -1,36 +1,22 @@
 -- A cycle keeps what the pipeline and its partner have in common: places, transfers that are over, locals, and gaps.
-use Rattle.std.proofs.Common.{◌≡◌, ℕ, zero, suc, ◌+◌, ◌-◌, ◌≤◌, ◌<◌, ◌==◌, ◌&&◌, ◌||◌, ◌%◌, ◌^◌, Bool, true, false, if◌then◌else◌, nat_lt, List, [], ◌∷◌, ◌++◌, Contains, IfSome, IsTrue, filter, slice_index, Option, Some, None, is_some, option_map, ◌⊎◌, inl, inr, refl, sym, ap, ◌∙◌, subst, arith}
-use Rattle.std.proofs.Math.Nat.{mod-eq_of_lt}
-use Rattle.std.proofs.lemmas.Bool.{and_parts, both_ways, cases_Bool, cases_lt, cases_order, eqb-true, le-ltb, or_cases}
-use Rattle.std.specs.List.{AllByRecursion as Each, list_any}
-use Rattle.ap_bits.specs.declared.card.Card.{Card}
-use Rattle.ap_desc.specs.declared.design.Design.{Design}
-use Rattle.ap_dist.specs.Spaced.{is_transfer_word, word_at}
-use Rattle.ap_image.specs.declared.image.Image.{Image}
-use Rattle.ap_image.specs.declared.trace.TraceLine.{TraceLine}
-use Rattle.ap_model.specs.declared.sequence.Pending.{Pending}
-use Rattle.ap_model.specs.declared.sequence.Progress.{Progress}
+use Rattle.std.proofs.Common.{◌≡◌, ℕ, suc, ◌+◌, ◌-◌, ◌≤◌, ◌<◌, ◌==◌, ◌&&◌, true, false, nat_lt, List, [], ◌∷◌, Contains, IfSome, IsTrue, Option, Some, None, is_some, ◌⊎◌, inl, inr, refl, sym, ap, ◌∙◌, subst, arith}
+use Rattle.std.proofs.lemmas.Bool.{and_parts, cases_Bool, cases_lt, eqb-true, le-ltb, or_cases}
+use Rattle.std.specs.List.{list_any}
 use Rattle.ap_model.specs.declared.state.Flight.{Flight}
 use Rattle.ap_model.specs.declared.state.Pass.{Pass}
 use Rattle.ap_model.specs.declared.state.StageEffect.{StageEffect}
-use Rattle.ap_model.specs.declared.state.State.{State}
-use Rattle.ap_model.specs.Cycles.{fetched, flight_at, flight_effect, gone_on, is_killed, leaving, staying}
+use Rattle.ap_model.specs.Cycles.{flight_at, flight_effect, is_killed}
 use Rattle.ap_model.specs.Landings.{taken_by}
-use Rattle.ap_model.specs.Sequence.{Partway, pc_after, pending_after}
 use Rattle.ap_space.proofs.Fired.{branch_high, branch_low}
-use Rattle.ap_space.proofs.Flights.{comes_at, enters_at, stays_at}
 use Rattle.ap_space.proofs.Futures.{deep_next, stage_later}
-use Rattle.ap_space.proofs.Gaps.{HasGaps, Landed, lands_fetching, lands_taking, lands_waiting, turn_gaps}
-use Rattle.ap_space.proofs.Meets.{Agrees, Deep, IsSetting, Meets, OnPath, Setting, agrees_before, control, deep_agrees, deep_on_path, effect, few_fetched, fires_as_partner, frame, inputs, is_frame, part, path_down, pc, run, samples, state, target, track, turn, word, word_is}
-use Rattle.ap_space.proofs.Partner.{target_is, target_transfers}
-use Rattle.ap_space.proofs.Parts.{at_number, first_number, next_number, part_more, part_none, taken_is}
+use Rattle.ap_space.proofs.Meets.{Deep, IsSetting, Meets, OnPath, Setting, control, deep_agrees, deep_on_path, fires_as_partner, frame, inputs, is_frame, run, samples, state, target, track, turn}
+use Rattle.ap_space.proofs.Partner.{target_is}
+use Rattle.ap_space.proofs.Parts.{taken_is}
 use Rattle.ap_space.proofs.Passed.{any_gives, has, is_pass}
-use Rattle.ap_space.proofs.Paths.{goes_straight, goes_to_target}
-use Rattle.ap_space.proofs.Runs.{decides, fetches_at, state_next, takes_at, untaken, waits_at, word_mod}
+use Rattle.ap_space.proofs.Runs.{decides, takes_at, untaken}
 use Rattle.ap_space.proofs.SampleRuns.{IsFiring}
-use Rattle.ap_space.proofs.Spacings.{spacing_is, spacing_of}
-use Rattle.ap_space.proofs.Tracked.{entered_from, left_from, left_of, none_taken, stayed_from}
-use Rattle.ap_space.proofs.Tracks.{Fetches, Takes, Waits, stage_grows}
+use Rattle.ap_space.proofs.Deep.{stage_grows}
+use Rattle.ap_space.proofs.Tracks.{Takes}
 
 -- a test that some element passes gives the element
 any_contains : (xs : List ℕ) (n : ℕ) → list_any (λ l. l == n) xs ≡ true → Contains xs n

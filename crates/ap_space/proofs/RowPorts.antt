@@ -1,13 +1,10 @@
 -- A row's writes, storage by storage, are those of its cycle: of each storage they stand in one order.
-use Rattle.std.proofs.Common.{◌≡◌, ℕ, zero, suc, ◌+◌, ◌-◌, ◌≤◌, ◌<◌, ◌==◌, ◌&&◌, Bool, true, false, if◌then◌else◌, List, [], ◌∷◌, ◌++◌, filter, filter_map, flat_map, length, map, slice_get, Option, Some, None, option_map, option_to_list, unwrap_or, ◌⊎◌, inl, inr, refl, sym, ap, ◌∙◌, subst, arith, append-nil, append_assoc}
-use Rattle.std.proofs.lemmas.Bool.{cases_Bool, cases_lt, eq-eqb, eqb-true}
+use Rattle.std.proofs.Common.{◌≡◌, ℕ, suc, ◌+◌, ◌≤◌, ◌<◌, ◌==◌, ◌&&◌, Bool, true, false, if◌then◌else◌, List, [], ◌∷◌, ◌++◌, filter, filter_map, flat_map, length, map, slice_get, Option, Some, None, option_map, option_to_list, unwrap_or, ◌⊎◌, inl, inr, refl, sym, ap, ◌∙◌, arith, append-nil}
+use Rattle.std.proofs.lemmas.Bool.{cases_lt, eqb-true}
 use Rattle.std.proofs.lemmas.List.Elements.{filter-append}
 use Rattle.std.specs.List.{AllByRecursion as Each, cons_option, range_with_len}
-use Rattle.std.specs.Option.{option_map_or}
 use Rattle.ap_desc.specs.Designs.{IsRight}
 use Rattle.ap_desc.specs.declared.design.Design.{Design}
-use Rattle.ap_desc.specs.declared.design.File.{File}
-use Rattle.ap_image.specs.declared.row.Write.{Write}
 use Rattle.ap_model.proofs.ListLemmas.{each_in_range, filter_flat_map, filter_map_is, filter_swap, flat_map_none, flat_map_same, flat_map_same_on, range_one}
 use Rattle.ap_model.proofs.PortsOnce.{all_ports, file_among_all, is_of_file, same_port, test_through, used_among_all}
 use Rattle.ap_model.proofs.UsedPorts.{used_is_port}
@@ -62,7 +59,7 @@ reg_in_row design reg once used =
     let t = is_same_port (port.Register reg) in
     let mems = none_mapped t port.Memory (λ mem. refl) (range_with_len 0 (length design.mems)) in
     let regs : filter t (reg_ports design) ≡ port.Register reg ∷ [] =
-    sym (append-nil (filter t (reg_ports design)) ) ∙ sym (append-nil (filter t (reg_ports design) ++ []))
+    sym (append-nil (filter t (reg_ports design))) ∙ sym (append-nil (filter t (reg_ports design) ++ []))
     ∙ (λ i. (filter t (reg_ports design) ++ sym (no_files t design (λ file number. refl) (range_with_len 0 (length design.files))) i) ++ sym mems i)
     ∙ sym (write_kinds t design) ∙ once in
     row_kinds t design

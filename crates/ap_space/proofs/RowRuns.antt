@@ -1,5 +1,5 @@
 -- The writes of all rows, storage by storage, are those of the whole log.
-use Rattle.std.proofs.Common.{◌≡◌, ℕ, zero, suc, ◌+◌, ◌-◌, if◌then◌else◌, cond, Bool, true, false, List, [], ◌∷◌, ◌++◌, filter, filter_map, flat_map, length, map, Option, Some, None, refl, sym, ap, ◌∙◌, subst, arith, append-nil}
+use Rattle.std.proofs.Common.{◌≡◌, ℕ, zero, suc, ◌+◌, ◌-◌, if◌then◌else◌, cond, Bool, true, false, List, [], ◌∷◌, ◌++◌, filter, filter_map, flat_map, length, map, Some, None, refl, sym, ap, ◌∙◌, arith, append-nil}
 use Rattle.std.proofs.lemmas.List.{map-append}
 use Rattle.std.proofs.lemmas.List.Elements.{filter_map-append}
 use Rattle.std.specs.List.{cons_option, range_with_len}
@@ -8,12 +8,9 @@ use Rattle.ap_desc.specs.Clean.{IsClean}
 use Rattle.ap_desc.specs.declared.design.Design.{Design}
 use Rattle.ap_image.specs.declared.image.Image.{Image}
 use Rattle.ap_image.specs.declared.row.Row.{Row}
-use Rattle.ap_image.specs.declared.row.Write.{Write}
 use Rattle.ap_image.specs.declared.trace.Trace.{Trace}
 use Rattle.ap_model.proofs.ListLemmas.{flat_map_both}
 use Rattle.ap_model.specs.declared.state.Entry.{Entry}
-use Rattle.ap_model.specs.declared.state.Flight.{Flight}
-use Rattle.ap_model.specs.declared.state.State.{State}
 use Rattle.ap_model.specs.declared.storage.PortWrite.{PortWrite}
 use Rattle.ap_model.specs.declared.storage.Storage.{Storage}
 use Rattle.ap_model.specs.Cycles.{after_control, control_of, cycle, cycle_entries, flight_entries, from_last, inputs_at, over}

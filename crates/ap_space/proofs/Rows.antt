@@ -1,8 +1,8 @@
 -- The writes of rows, storage by storage, are those of the log.
-use Rattle.std.proofs.Common.{◌≡◌, ℕ, zero, suc, ◌+◌, ◌-◌, ◌≤◌, ◌<◌, ◌==◌, ◌&&◌, ◌||◌, Bool, true, false, cond, if◌then◌else◌, List, [], ◌∷◌, ◌++◌, filter, filter_map, flat_map, find, length, map, reverse, slice_get, slice_index_or, Option, Some, None, option_map, option_to_list, unwrap_or, ◌⊎◌, inl, inr, refl, sym, ap, ◌∙◌, subst, arith, append-nil, append_assoc}
-use Rattle.std.proofs.lemmas.Bool.{and_from, and_left, and_parts, and_right, both_ways, cases_Bool, cases_lt, cases_order, cond-true, cond-false, eq-eqb, eqb-true, false_from_ne_true, ne_eqb, or_cases, or_left, or_right}
+use Rattle.std.proofs.Common.{◌≡◌, ℕ, zero, suc, ◌+◌, ◌-◌, ◌≤◌, ◌<◌, ◌==◌, ◌&&◌, ◌||◌, Bool, true, false, cond, if◌then◌else◌, List, [], ◌∷◌, ◌++◌, filter, filter_map, flat_map, find, length, map, reverse, slice_get, slice_index_or, Option, Some, None, option_to_list, ◌⊎◌, inl, inr, refl, sym, ap, ◌∙◌, subst, arith, append-nil}
+use Rattle.std.proofs.lemmas.Bool.{and_from, and_left, and_parts, both_ways, cases_lt, eq-eqb, ne_eqb, or_cases, or_left, or_right}
 use Rattle.std.proofs.lemmas.List.{map-append, reverse-append}
-use Rattle.std.proofs.lemmas.List.Elements.{filter-append, filter_map-append}
+use Rattle.std.proofs.lemmas.List.Elements.{filter-append}
 use Rattle.std.specs.List.{AllByRecursion as Each, cons_option, list_any, range_with_len}
 use Rattle.std.specs.Option.{option_map_or}
 use Rattle.ap_bits.specs.declared.card.Card.{Card}
@@ -15,31 +15,26 @@ use Rattle.ap_desc.specs.declared.design.Design.{Design}
 use Rattle.ap_desc.specs.declared.design.Instr.{Instr}
 use Rattle.ap_desc.specs.declared.design.Micro.{Micro}
 use Rattle.ap_dist.proofs.Matched.{instr_place}
-use Rattle.ap_image.specs.declared.image.Image.{Image}
-use Rattle.ap_image.specs.declared.row.Row.{Row}
-use Rattle.ap_image.specs.declared.row.Write.{Write}
-use Rattle.ap_image.specs.declared.trace.Trace.{Trace}
 use Rattle.ap_image.specs.declared.trace.TraceLine.{TraceLine}
-use Rattle.ap_model.proofs.ListLemmas.{flat_map_both, flat_map_none}
+use Rattle.ap_model.proofs.ListLemmas.{flat_map_both}
 use Rattle.ap_model.proofs.MachineLaws.{stage_writes_by_ports}
 use Rattle.ap_model.proofs.PortRows.{groups_by_ports}
-use Rattle.ap_model.proofs.PortsOnce.{all_ports, all_through, same_port}
+use Rattle.ap_model.proofs.PortsOnce.{all_through, same_port}
 use Rattle.ap_model.proofs.WritesApart.{WritesApart, writes_apart}
 use Rattle.ap_model.specs.declared.state.Entry.{Entry}
 use Rattle.ap_model.specs.declared.state.Flight.{Flight}
-use Rattle.ap_model.specs.declared.state.StageEffect.{StageEffect}
 use Rattle.ap_model.specs.declared.state.State.{State}
 use Rattle.ap_model.specs.declared.storage.PortWrite.{PortWrite}
 use Rattle.ap_model.specs.declared.storage.Storage.{Storage}
 use Rattle.ap_model.specs.declared.storage.Storages.{Storages}
 use Rattle.ap_model.specs.declared.storage.WritePort.{WritePort}
 use Rattle.ap_model.specs.declared.storage.WritePort.TheVariants as port
-use Rattle.ap_model.specs.Cycles.{CycleControl, cycle_entries, entries_of, entry_of, flight_at, flight_effect, flight_entries, from_last, is_killed, port_input}
+use Rattle.ap_model.specs.Cycles.{CycleControl, entries_of, entry_of, flight_at, flight_effect, flight_entries, from_last, is_killed, port_input}
 use Rattle.ap_model.specs.Fire.{Sight, arg_value, fire, instr_effect, instr_of, lines_in, locals_after, write_of}
-use Rattle.ap_model.specs.PortForms.{GoesThroughPorts, ShowsWrites, Writing, all_writes, shown_ports, stage_ports, stage_writes, through, write_through}
-use Rattle.ap_model.specs.Ports.{is_same_port, is_used, is_used_in, row_ports, stages_from_last, write_ports, writes_in, writes_through}
-use Rattle.ap_model.specs.ShownRows.{control_row, group_writes}
-use Rattle.ap_model.specs.WritesOf.{goes_to, row_write, seen_of, writes_of}
+use Rattle.ap_model.specs.PortForms.{GoesThroughPorts, Writing, all_writes, stage_writes, write_through}
+use Rattle.ap_model.specs.Ports.{is_same_port, is_used, is_used_in, row_ports, write_ports, writes_in, writes_through}
+use Rattle.ap_model.specs.ShownRows.{group_writes}
+use Rattle.ap_model.specs.WritesOf.{goes_to, row_write}
 use Rattle.ap_space.proofs.Fired.{lines_stand}
 use Rattle.ap_space.proofs.Lists.{each_append, each_as, each_both, each_filter, each_left, each_map, each_right, filter_all, filter_none, filter_same, filter_twice}
 use Rattle.ap_space.proofs.RowPorts.{IsPlain, rows_show, same_writes}
@@ -65,9 +60,10 @@ found_has {X} t P (y ∷ xs) x each e = by_test (t y) refl e (λ f. found_has t 
 
 any_itself_at : {A X : Type 0} (t : A → X → Bool) (xs : List X) → Each (λ x. (a : A) → t a x ≡ true → list_any (t a) xs ≡ true) xs
 any_itself_at t [] = tt
-any_itself_at {A} {X} t (x ∷ xs) =
-    ((λ a e. or_left (t a x) (list_any (t a) xs) e),
-    each_as (λ y. (a : A) → t a y ≡ true → list_any (t a) xs ≡ true) (λ y. (a : A) → t a y ≡ true → (t a x || list_any (t a) xs) ≡ true) (λ y h a e. or_right (t a x) (list_any (t a) xs) (h a e)) xs (any_itself_at t xs))
+any_itself_at {A} {X} t (x ∷ xs) = (
+  (λ a e. or_left (t a x) (list_any (t a) xs) e),
+  each_as (λ y. (a : A) → t a y ≡ true → list_any (t a) xs ≡ true) (λ y. (a : A) → t a y ≡ true → (t a x || list_any (t a) xs) ≡ true) (λ y h a e. or_right (t a x) (list_any (t a) xs) (h a e)) xs (any_itself_at t xs),
+)
 
 any_more : {X : Type 0} (s t : X → Bool) → ((x : X) → s x ≡ true → t x ≡ true) → (xs : List X) → list_any s xs ≡ true → list_any t xs ≡ true
 any_more s t up [] e = absurd cc

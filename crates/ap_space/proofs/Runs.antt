@@ -1,5 +1,5 @@
 -- The track of a run of the machine, cycle by cycle.
-use Rattle.std.proofs.Common.{◌≡◌, ℕ, zero, suc, ◌++◌, ◌+◌, ◌-◌, ◌≤◌, ◌<◌, ◌%◌, ◌^◌, Bool, true, false, cond, if◌then◌else◌, slice_index, List, Option, Some, None, option_and_then, refl, sym, ap, ◌∙◌, subst, arith, pow_pos}
+use Rattle.std.proofs.Common.{◌≡◌, ℕ, zero, suc, ◌++◌, ◌+◌, ◌≤◌, ◌<◌, ◌%◌, ◌^◌, Bool, true, false, if◌then◌else◌, slice_index, List, Option, Some, None, option_and_then, refl, sym, ap, ◌∙◌, subst, arith, pow_pos}
 use Rattle.std.proofs.Math.Nat.{mod-mod}
 use Rattle.std.proofs.lemmas.Bool.{cond-false}
 use Rattle.std.specs.List.{AllByRecursion as Each}
@@ -22,7 +22,7 @@ use Rattle.ap_space.proofs.Logged.{IsLogged, fires_on, log_is, turn_logged}
 use Rattle.ap_space.proofs.Passed.{IsPassed, turn_passed}
 use Rattle.ap_space.proofs.SampleRuns.{IsFiring, IsOldSample, turn_sampled}
 use Rattle.ap_space.proofs.Tracked.{left_of, turn_tracked}
-use Rattle.ap_space.proofs.Tracks.{Fetches, Frame, IsFrame, IsHold, IsTrack, IsTurn, Takes, Track, Waits, turn_track}
+use Rattle.ap_space.proofs.Tracks.{Fetches, IsFrame, IsHold, IsTrack, IsTurn, Takes, Track, Waits, turn_track}
 use Rattle.ap_space.proofs.Turns.{IsControl, IsTracked, TakesBy, fetches_is, frame_of, is_turn, next_track, takes_is, waits_is}
 
 pub word_mod : (design : Design) (image : Image) (place : ℕ) → word_at design image (place % 2 ^ design.address) ≡ word_at design image place

@@ -1,12 +1,11 @@
 -- What a stage does with a word is the same on two storages that agree where the word reads, and from two inputs that agree where it
 -- samples; and what it writes goes to storages that the word writes.
-use Rattle.std.proofs.Common.{◌≡◌, ℕ, zero, suc, ◌+◌, ◌-◌, ◌*◌, ◌/◌, ◌%◌, ◌^◌, ◌≤◌, ◌<◌, ◌==◌, ◌&&◌, Bool, true, false, cond, if◌then◌else◌, List, [], ◌∷◌, ◌++◌, length, filter, filter_map, flat_map, slice_get, slice_index, slice_index_or, Contains, Option, Some, None, option_map, option_and_then, option_to_list, refl, sym, ap, ◌∙◌, subst, arith, append_assoc, append-nil}
-use Rattle.std.proofs.lemmas.Bool.{cond-true, cond-false, eq-eqb, eqb-true, both_ways}
-use Rattle.std.specs.List.{AllByRecursion as Each, cons_option}
-use Rattle.std.specs.Option.{option_map_or}
+use Rattle.std.proofs.Common.{◌≡◌, ℕ, ◌+◌, ◌-◌, ◌*◌, ◌/◌, ◌%◌, ◌^◌, ◌==◌, Bool, true, false, cond, List, [], ◌∷◌, ◌++◌, length, filter_map, slice_get, slice_index, Contains, Option, Some, None, option_map, option_to_list, refl, sym, ap, ◌∙◌, subst}
+use Rattle.std.proofs.lemmas.Bool.{eq-eqb, eqb-true}
+use Rattle.std.specs.List.{cons_option}
 use Rattle.ap_bits.specs.Operations.{sign_extended}
 use Rattle.ap_bits.specs.declared.card.Card.{Card}
-use Rattle.ap_desc.specs.Designs.{IsArg, IsInRange, fields_of}
+use Rattle.ap_desc.specs.Designs.{IsInRange, fields_of}
 use Rattle.ap_desc.specs.declared.design.Act.{Act}
 use Rattle.ap_desc.specs.declared.design.Act.TheVariants as act
 use Rattle.ap_desc.specs.declared.design.Arg.{Arg}
@@ -15,20 +14,16 @@ use Rattle.ap_desc.specs.declared.design.Design.{Design}
 use Rattle.ap_desc.specs.declared.design.Instr.{Instr}
 use Rattle.ap_desc.specs.declared.design.Micro.{Micro}
 use Rattle.ap_dist.proofs.Matched.{word_accesses}
-use Rattle.ap_dist.specs.Accesses.{access_by, access_of, accesses, accesses_of, index_of}
+use Rattle.ap_dist.specs.Accesses.{access_by, access_of, index_of}
 use Rattle.ap_dist.specs.Touches.{touches}
 use Rattle.ap_dist.specs.declared.access.Access.{Access}
 use Rattle.ap_dist.specs.declared.access.Part.TheVariants as part
-use Rattle.ap_model.proofs.LineOrder.{count}
-use Rattle.ap_model.proofs.StageLemmas.{before, within, word_is_good}
+use Rattle.ap_model.proofs.StageLemmas.{within, word_is_good}
 use Rattle.ap_model.specs.declared.state.InputRead.{InputRead}
 use Rattle.ap_model.specs.declared.state.StageEffect.{StageEffect}
-use Rattle.ap_model.specs.declared.storage.PortWrite.{PortWrite}
 use Rattle.ap_model.specs.declared.storage.Storage.{Storage}
 use Rattle.ap_model.specs.declared.storage.Storage.TheVariants as storage
 use Rattle.ap_model.specs.declared.storage.Storages.{Storages}
-use Rattle.ap_model.specs.declared.storage.WritePort.{WritePort}
-use Rattle.ap_model.specs.declared.storage.WritePort.TheVariants as port
 use Rattle.ap_model.specs.Fire.{Sight, act_value, arg_value, bits_of_arg, fire, input_of, instr_effect, instr_of, lines_effect, lines_in, locals_after, ordered, read_of, target_of, unit_value, write_of}
 use Rattle.ap_model.specs.Fitting.{IsGood}
 use Rattle.ap_model.specs.Runnable.{IsRunnable}
@@ -68,6 +63,7 @@ module _ (design : Design) (cards : List Card) (word place stage : ℕ) (instr :
           in_stage = stands ∙ here;
           touches_it = touching;
         })
+
     operand : (a : Arg) → arg_value on_s locals a ≡ arg_value on_t locals a
     operand a = same_arg design cards word place instr s t in_s in_t locals a
 

@@ -1,6 +1,6 @@
 -- The samples after a cycle: an unkilled number keeps those that it has, and a line that fires adds what its input is.
-use Rattle.std.proofs.Common.{◌≡◌, ℕ, zero, suc, ◌+◌, ◌-◌, ◌≤◌, ◌<◌, ◌==◌, ◌||◌, ◌&&◌, ◌↔◌, Bool, true, false, cond, if◌then◌else◌, nat_lt, List, [], ◌∷◌, ◌++◌, length, filter, map, slice_get, slice_index, slice_index_or, Contains, Option, Some, None, is_some, ◌⊎◌, inl, inr, refl, sym, ap, ◌∙◌, subst, arith}
-use Rattle.std.proofs.lemmas.Bool.{and_from, and_parts, both_ways, cases_Bool, cases_lt, cases_order, cond-true, cond-false, eq-eqb, eqb-true, false_from_ne_true, lt-ltb, ltb-true, or_left, or_right, or_from}
+use Rattle.std.proofs.Common.{◌≡◌, ℕ, zero, suc, ◌+◌, ◌-◌, ◌≤◌, ◌<◌, ◌==◌, ◌||◌, ◌&&◌, Bool, true, false, cond, if◌then◌else◌, nat_lt, List, [], ◌∷◌, ◌++◌, length, filter, slice_get, slice_index, slice_index_or, Contains, Option, Some, None, is_some, ◌⊎◌, inl, inr, refl, sym, ap, ◌∙◌, subst, arith}
+use Rattle.std.proofs.lemmas.Bool.{and_parts, cases_order, cond-true, cond-false, eq-eqb, eqb-true, lt-ltb, ltb-true, or_left, or_right, or_from}
 use Rattle.std.specs.List.{AllByRecursion as Each, list_any}
 use Rattle.std.specs.Option.{option_map_or}
 use Rattle.ap_bits.specs.declared.card.Card.{Card}
@@ -25,8 +25,8 @@ use Rattle.ap_space.proofs.Locals.{IsSampled}
 use Rattle.ap_space.proofs.Passed.{any_append}
 use Rattle.ap_space.proofs.SameFire.{WordSamples}
 use Rattle.ap_space.proofs.Sampled.{IsFoundWith, IsReadBy, any_mapped, find_first, find_kept, find_later, find_with, found, is_sample, read_listed, reads_are}
-use Rattle.ap_space.proofs.Tracked.{is_left}
-use Rattle.ap_space.proofs.Tracks.{IsTrack, IsTurn, Track, stage_grows}
+use Rattle.ap_space.proofs.Deep.{stage_grows}
+use Rattle.ap_space.proofs.Tracks.{IsTrack, IsTurn, Track}
 use Rattle.ap_space.proofs.Turns.{IsControl, IsTracked, frame_of, is_turn, next_quiet, next_track}
 
 -- One line of an instruction has a number.

@@ -1,9 +1,8 @@
 -- The samples that the machine keeps: those of an unkilled number stay, and each is what the input was when its line fired.
-use Rattle.std.proofs.Common.{◌≡◌, ℕ, zero, suc, ◌+◌, ◌-◌, ◌≤◌, ◌<◌, ◌==◌, ◌||◌, ◌&&◌, Bool, true, false, cond, if◌then◌else◌, nat_lt, List, [], ◌∷◌, ◌++◌, length, filter, filter_map, find, map, slice_get, slice_index, slice_index_or, Contains, Option, Some, None, is_some, option_map, ◌⊎◌, inl, inr, refl, sym, ap, ◌∙◌, subst, arith, append_assoc}
-use Rattle.std.proofs.lemmas.Bool.{and_from, and_parts, both_ways, cases_Bool, cases_lt, cases_order, cond-true, cond-false, eq-eqb, eqb-true, false_from_ne_true, le-ltb, lt-ltb, or_cases, or_left, or_right, or_from}
+use Rattle.std.proofs.Common.{◌≡◌, ℕ, ◌==◌, ◌||◌, ◌&&◌, Bool, true, false, cond, List, [], ◌∷◌, ◌++◌, filter, filter_map, find, map, Option, Some, None, option_map, refl, sym, ap, ◌∙◌, append_assoc}
+use Rattle.std.proofs.lemmas.Bool.{both_ways, cond-true, cond-false, eq-eqb, eqb-true, false_from_ne_true, or_left, or_right}
 use Rattle.std.proofs.lemmas.List.Elements.{filter-append, filter_map-append}
 use Rattle.std.specs.List.{AllByRecursion as Each, cons_option, list_any}
-use Rattle.std.specs.Option.{option_map_or}
 use Rattle.ap_bits.specs.declared.card.Card.{Card}
 use Rattle.ap_desc.specs.declared.design.Design.{Design}
 use Rattle.ap_desc.specs.declared.design.Instr.{Instr}
@@ -12,9 +11,7 @@ use Rattle.ap_model.proofs.StageLemmas.{within}
 use Rattle.ap_model.specs.declared.state.InputRead.{InputRead}
 use Rattle.ap_model.specs.declared.state.Sample.{Sample}
 use Rattle.ap_model.specs.declared.storage.Storages.{Storages}
-use Rattle.ap_model.specs.Cycles.{sample_of}
-use Rattle.ap_model.specs.Fire.{Sight, fire, input_of, instr_effect, instr_of, lines_in, read_of}
-use Rattle.ap_space.proofs.Lists.{each_append, each_map}
+use Rattle.ap_model.specs.Fire.{fire, input_of, instr_effect, instr_of, lines_in, read_of}
 use Rattle.ap_space.proofs.Locals.{IsSampled}
 use Rattle.ap_space.proofs.Passed.{any_append}
 use Rattle.ap_space.proofs.SameFire.{WordSamples}
@@ -89,12 +86,14 @@ module _ (design : Design) (word stage : ℕ) (instr : Instr) (at : instr_of des
       by_read : m.stage ≡ stage → (o : Option ℕ) → input_of m.act ≡ o → Each (IsReadBy design word stage input) (filter_map (read_of input) (within stage rest))
           → Each (IsReadBy design word stage input) (cons_option (option_map (λ port. record { line = m.line; value = input m.line port }) o) (filter_map (read_of input) (within stage rest)))
       by_read here None e later = later
-      by_read here (Some p) e later =
-          (record {
-            port = p;
-            samples = (instr, at, record { micro = m; earlier = done; rest = rest; whole = whole; in_stage = here; at_line = refl; reads_it = e });
-            value = refl;
-          }, later)
+      by_read here (Some p) e later = (
+        record {
+          port = p;
+          samples = (instr, at, record { micro = m; earlier = done; rest = rest; whole = whole; in_stage = here; at_line = refl; reads_it = e });
+          value = refl;
+        },
+        later,
+      )
 
       by_stage : (b : Bool) → (m.stage == stage) ≡ b → Each (IsReadBy design word stage input) (filter_map (read_of input) (within stage rest))
           → Each (IsReadBy design word stage input) (filter_map (read_of input) (cond b (m ∷ within stage rest) (within stage rest)))

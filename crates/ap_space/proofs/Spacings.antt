@@ -1,6 +1,5 @@
 -- The spacing of an image by its words' distances, and what two accesses of one storage have of it.
-use Rattle.std.proofs.Common.{◌≡◌, ℕ, zero, suc, ◌+◌, ◌-◌, ◌≤◌, ◌<◌, ◌%◌, ◌^◌, Bool, true, false, List, [], Contains, IsTrue, slice_get, Option, Some, None, refl, sym, ap, ◌∙◌, subst, arith}
-use Rattle.std.proofs.lemmas.Bool.{both_ways}
+use Rattle.std.proofs.Common.{◌≡◌, ℕ, ◌+◌, ◌≤◌, Bool, true, false, List, Contains, Option, Some, None, refl, sym, ap, ◌∙◌, subst, arith}
 use Rattle.std.specs.List.{list_any}
 use Rattle.std.specs.Option.{option_map_or}
 use Rattle.ap_desc.proofs.Encoded.{encoded_if_clean}
@@ -13,7 +12,6 @@ use Rattle.ap_desc.specs.declared.design.Instr.{Instr}
 use Rattle.ap_desc.specs.declared.design.Micro.{Micro}
 use Rattle.ap_dist.proofs.Bounds.{before_write_apart, dist_within_out, nop_dist, touching_conflict, write_read_apart}
 use Rattle.ap_dist.proofs.Matched.{each_here, instr_place}
-use Rattle.ap_dist.specs.Accesses.{accesses_of}
 use Rattle.ap_dist.specs.Distances.{dist_of, out_of}
 use Rattle.ap_dist.specs.Spaced.{IsSpaced, is_nop_word, is_transfer_word, word_at}
 use Rattle.ap_image.specs.declared.image.Image.{Image}

@@ -1,23 +1,16 @@
 -- A cycle keeps a state fitting.
-use Rattle.std.proofs.Common.{◌≡◌, ℕ, zero, suc, ◌+◌, ◌-◌, ◌≤◌, ◌<◌, ◌^◌, ◌%◌, ◌||◌, ◌++◌, Bool, true, false, if◌then◌else◌, IfSome, List, [], ◌∷◌, length, map, fold, max, replicate, is_some, unwrap_or, Option, Some, None, option_map, refl, ap, sym, subst, ◌∙◌, arith, leb-true, mod-lt, pow_pos}
-use Rattle.std.proofs.lemmas.Bool.{and_parts}
-use Rattle.std.specs.List.{AllByRecursion as Each, range_with_len}
+use Rattle.std.proofs.Common.{◌≡◌, ℕ, zero, suc, ◌+◌, ◌-◌, ◌<◌, ◌^◌, ◌%◌, ◌||◌, Bool, true, false, if◌then◌else◌, IfSome, List, [], ◌∷◌, length, replicate, unwrap_or, Option, Some, None, refl, ap, sym, subst, ◌∙◌, mod-lt, pow_pos}
 use Rattle.ap_bits.specs.declared.card.Card.{Card}
 use Rattle.ap_model.specs.Runnable.{IsRunnable}
 use Rattle.ap_desc.specs.declared.design.Design.{Design}
 use Rattle.ap_image.specs.FitsShape.{ImageFitsShape}
 use Rattle.ap_image.specs.declared.image.Image.{Image}
-use Rattle.ap_image.specs.declared.trace.Trace.{Trace}
 use Rattle.ap_image.specs.declared.trace.TraceLine.{TraceLine}
-use Rattle.ap_image.specs.declared.row.Row.{Row}
-use Rattle.ap_model.specs.declared.state.StageEffect.{StageEffect}
 use Rattle.ap_model.specs.declared.state.Flight.{Flight}
 use Rattle.ap_model.specs.declared.state.State.{State}
-use Rattle.ap_model.specs.Cycles.{CycleControl, after_control, control_of, cycle, cycle_flights, effect_in, entering, fetched, flights_from, gone_on, inputs_at, is_killed, leaving, next_number, next_pc, over, staying, taken_transfer, unkilled_numbers}
+use Rattle.ap_model.specs.Cycles.{CycleControl, after_control, cycle_flights, entering, fetched, flights_from, is_killed, leaving, next_pc}
 use Rattle.ap_model.specs.DesignShape.{shape_of}
-use Rattle.ap_model.specs.Fitting.{CountsWithin, FlightFits, FlightsFit, StateFits, StoragesFit, WaitsWithin}
-use Rattle.ap_model.specs.ShownRows.{cycle_row, row, rows_of}
-use Rattle.ap_model.specs.Stalls.{busy_from, is_held_stage}
+use Rattle.ap_model.specs.Fitting.{FlightFits, FlightsFit, StateFits, StoragesFit}
 use Rattle.ap_model.specs.States.{start}
 use Rattle.ap_space.proofs.MachineFits.{empty_fits, fetched_fits, start_fits}
 

@@ -1,10 +1,10 @@
 -- What a stage writes goes to storages that its word writes there.
-use Rattle.std.proofs.Common.{◌≡◌, ℕ, zero, suc, ◌+◌, ◌≤◌, ◌<◌, ◌==◌, ◌&&◌, Bool, true, false, cond, if◌then◌else◌, nat_lt, List, [], ◌∷◌, ◌++◌, length, filter, filter_map, flat_map, Contains, Option, Some, None, refl, sym, ap, ◌∙◌, subst, arith, append-nil}
+use Rattle.std.proofs.Common.{◌≡◌, ℕ, suc, ◌+◌, ◌≤◌, ◌==◌, Bool, true, false, cond, if◌then◌else◌, nat_lt, List, [], ◌∷◌, ◌++◌, length, filter, filter_map, flat_map, Contains, Option, Some, None, refl, sym, ap, ◌∙◌, subst, arith}
 use Rattle.std.proofs.lemmas.Bool.{and_parts, eq-eqb, eqb-false, eqb-true, ltb-false, ltb-true}
 use Rattle.std.proofs.lemmas.List.Elements.{filter-append}
 use Rattle.std.specs.List.{AllByRecursion as Each, cons_option}
 use Rattle.ap_bits.specs.declared.card.Card.{Card}
-use Rattle.ap_desc.specs.Designs.{AreInRange, IsArg, IsInRange, assigned_count, fields_of}
+use Rattle.ap_desc.specs.Designs.{AreInRange, IsArg, IsInRange, fields_of}
 use Rattle.ap_desc.specs.declared.design.Act.{Act}
 use Rattle.ap_desc.specs.declared.design.Act.TheVariants as act
 use Rattle.ap_desc.specs.declared.design.Arg.{Arg}
@@ -14,7 +14,7 @@ use Rattle.ap_desc.specs.declared.design.Field.{Field}
 use Rattle.ap_desc.specs.declared.design.Instr.{Instr}
 use Rattle.ap_desc.specs.declared.design.Micro.{Micro}
 use Rattle.ap_dist.proofs.Matched.{word_accesses}
-use Rattle.ap_dist.specs.Accesses.{access_by, access_of, accesses, accesses_of, index_of}
+use Rattle.ap_dist.specs.Accesses.{access_by, access_of, index_of}
 use Rattle.ap_dist.specs.Touches.{touches}
 use Rattle.ap_dist.specs.declared.access.Access.{Access}
 use Rattle.ap_dist.specs.declared.access.Part.TheVariants as part
@@ -27,7 +27,7 @@ use Rattle.ap_model.specs.declared.storage.Storage.TheVariants as storage
 use Rattle.ap_model.specs.declared.storage.Storages.{Storages}
 use Rattle.ap_model.specs.declared.storage.WritePort.{WritePort}
 use Rattle.ap_model.specs.declared.storage.WritePort.TheVariants as port
-use Rattle.ap_model.specs.Fire.{arg_value, fire, instr_effect, instr_of, lines_in, locals_after, ordered, where_guard, write_of}
+use Rattle.ap_model.specs.Fire.{arg_value, fire, instr_effect, instr_of, lines_in, locals_after, where_guard, write_of}
 use Rattle.ap_model.specs.Fitting.{IsGood}
 use Rattle.ap_model.specs.Ports.{is_same_port, write_ports}
 use Rattle.ap_model.specs.Runnable.{IsRunnable, NeverFall}

@@ -1,6 +1,6 @@
 -- After a cycle the flights are those of the track after its turn.
-use Rattle.std.proofs.Common.{◌≡◌, ℕ, zero, suc, ◌+◌, ◌-◌, ◌≤◌, ◌<◌, ◌%◌, ◌^◌, ◌||◌, ◌&&◌, Bool, true, false, cond, if◌then◌else◌, nat_lt, slice_index, slice_index_or, List, Option, Some, None, is_some, option_map, option_and_then, ◌⊎◌, inl, inr, refl, sym, ap, ◌∙◌, subst, arith}
-use Rattle.std.proofs.lemmas.Bool.{cond-true, cond-false, cases_Bool, cases_lt, cases_order, both_ways, lt-ltb, le-ltb, ltb-true, ltb-false, or_left, or_right, or_from, or_parts, false_from_ne_true}
+use Rattle.std.proofs.Common.{◌≡◌, ℕ, suc, ◌+◌, ◌-◌, ◌≤◌, ◌<◌, ◌||◌, Bool, true, false, if◌then◌else◌, slice_index, List, Option, Some, None, option_map, ◌⊎◌, inl, inr, refl, sym, ap, ◌∙◌, subst, arith}
+use Rattle.std.proofs.lemmas.Bool.{cond-true, cond-false, cases_Bool, cases_lt, cases_order, both_ways, le-ltb, or_from, false_from_ne_true}
 use Rattle.ap_bits.specs.declared.card.Card.{Card}
 use Rattle.ap_desc.specs.Clean.{IsClean}
 use Rattle.ap_desc.specs.declared.design.Design.{Design}
@@ -9,10 +9,10 @@ use Rattle.ap_image.specs.declared.trace.TraceLine.{TraceLine}
 use Rattle.ap_model.specs.declared.state.Flight.{Flight}
 use Rattle.ap_model.specs.declared.state.StageEffect.{StageEffect}
 use Rattle.ap_model.specs.declared.state.State.{State}
-use Rattle.ap_model.specs.Cycles.{CycleControl, after_control, effect_in, entering, fetched, flight_at, flight_effect, gone_on, is_killed, leaving, staying}
+use Rattle.ap_model.specs.Cycles.{CycleControl, after_control, fetched, flight_at, flight_effect, gone_on, is_killed, leaving, staying}
 use Rattle.ap_space.proofs.Fired.{branch_high, branch_low, few_slots}
 use Rattle.ap_space.proofs.Flights.{comes_at, count_after, enters_at, stays_at}
-use Rattle.ap_space.proofs.Tracks.{Fetches, Frame, IsFrame, IsHold, IsTrack, IsTurn, Kind, Takes, Track, Waits}
+use Rattle.ap_space.proofs.Tracks.{Frame, IsTrack, IsTurn, Kind, Track}
 use Rattle.ap_space.proofs.Tracks.Kind.{fetches, takes, waits}
 use Rattle.ap_space.proofs.Turns.{HasFlightOf, IsControl, IsFlightOf, IsTracked, all_free, by, flight_is, frame_of, free, is_turn, killed_is, last_place, left_low, next_quiet, next_taken, next_track, not_killed, t, transfer_is}
 

@@ -1,6 +1,6 @@
 -- A cycle of the machine is a turn of its track: the stages and places of numbers go on as the flights do.
-use Rattle.std.proofs.Common.{◌≡◌, ℕ, zero, suc, ◌+◌, ◌-◌, ◌≤◌, ◌<◌, ◌%◌, ◌^◌, ◌||◌, ◌&&◌, Bool, true, false, cond, if◌then◌else◌, nat_lt, List, [], ◌∷◌, ◌++◌, length, fold, max, slice_index, slice_index_or, Option, Some, None, is_some, unwrap_or, option_map, option_and_then, ◌⊎◌, inl, inr, refl, sym, ap, ◌∙◌, subst, arith, append_assoc, append-nil}
-use Rattle.std.proofs.lemmas.Bool.{cond-true, cond-false, cases_Bool, cases_lt, cases_order, both_ways, lt-ltb, le-ltb, ltb-true, ltb-false, or_left, or_right, or_from, or_parts, and_left, and_right, false_from_ne_true}
+use Rattle.std.proofs.Common.{◌≡◌, ℕ, suc, ◌+◌, ◌-◌, ◌≤◌, ◌<◌, ◌%◌, ◌^◌, ◌||◌, ◌&&◌, Bool, true, false, if◌then◌else◌, nat_lt, List, [], ◌∷◌, ◌++◌, length, fold, max, slice_index, slice_index_or, Option, Some, None, is_some, unwrap_or, ◌⊎◌, inl, inr, refl, sym, ap, ◌∙◌, subst, arith, append_assoc}
+use Rattle.std.proofs.lemmas.Bool.{cond-true, cond-false, cases_lt, both_ways, lt-ltb, le-ltb, ltb-false, or_from, false_from_ne_true}
 use Rattle.std.proofs.Math.Nat.{mod-eq_of_lt}
 use Rattle.std.specs.List.{AllByRecursion as Each}
 use Rattle.ap_bits.specs.declared.card.Card.{Card}
@@ -10,13 +10,12 @@ use Rattle.ap_dist.specs.Spaced.{is_transfer_word, word_at}
 use Rattle.ap_image.specs.declared.image.Image.{Image}
 use Rattle.ap_image.specs.declared.trace.TraceLine.{TraceLine}
 use Rattle.ap_model.specs.declared.state.Flight.{Flight}
-use Rattle.ap_model.specs.declared.state.StageEffect.{StageEffect}
 use Rattle.ap_model.specs.declared.state.State.{State}
-use Rattle.ap_model.specs.Cycles.{CycleControl, after_control, effect_in, entering, fetched, flight_at, flight_effect, from_last, gone_on, is_killed, leaving, next_number, next_pc, staying, unkilled_number, unkilled_numbers}
+use Rattle.ap_model.specs.Cycles.{CycleControl, after_control, flight_at, flight_effect, from_last, is_killed, next_number, next_pc, unkilled_number, unkilled_numbers}
 use Rattle.ap_space.proofs.Fired.{branch_high, branch_low, few_slots, taken_in_branch}
-use Rattle.ap_space.proofs.Flights.{comes_at, count_after, each_told, enters_at, stays_at, told_at}
+use Rattle.ap_space.proofs.Flights.{each_told, told_at}
 use Rattle.ap_space.proofs.Lists.{each_append, greatest_of}
-use Rattle.ap_space.proofs.Tracks.{Fetches, Frame, IsFrame, IsHold, IsTrack, IsTurn, Kind, Takes, Track, Waits}
+use Rattle.ap_space.proofs.Tracks.{Fetches, Frame, IsHold, IsTrack, IsTurn, Kind, Takes, Track, Waits}
 use Rattle.ap_space.proofs.Tracks.Kind.{fetches, takes, waits}
 
 -- the pipeline of a design, with the words of an image

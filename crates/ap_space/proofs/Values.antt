@@ -1,11 +1,10 @@
 -- What lines give fits: the values of operations, and the local that a line assigns.
-use Rattle.std.proofs.Common.{◌≡◌, ℕ, zero, suc, ◌+◌, ◌-◌, ◌*◌, ◌/◌, ◌%◌, ◌^◌, ◌≤◌, ◌<◌, ◌==◌, ◌||◌, not, Bool, true, false, cond, if◌then◌else◌, nat_lt, ℤ, pos, negsuc, ◌-ℤ◌, int_lt, bit_and, bit_or, bit_xor, List, IfSome, IsTrue, Option, Some, None, slice_get, refl, sym, ap, ◌∙◌, subst, arith, mod-lt, pow_pos, pow_mono, lt_of_lt_of_le, eqb-true}
+use Rattle.std.proofs.Common.{ℕ, zero, suc, ◌+◌, ◌-◌, ◌*◌, ◌/◌, ◌%◌, ◌^◌, ◌≤◌, ◌<◌, ◌==◌, Bool, true, false, if◌then◌else◌, nat_lt, ℤ, pos, negsuc, int_lt, Option, Some, None, slice_get, sym, subst, arith, mod-lt, pow_pos, pow_mono}
 use Rattle.std.proofs.Math.Nat.{div-le_self, mod-le}
-use Rattle.std.proofs.lemmas.Bool.{ltb-true, ltb-false}
 use Rattle.std.proofs.lemmas.Nat.{and_le_l, div_below, mul-lt, or_lt, pow_below, shr_le, xor_lt}
 use Rattle.std.specs.Option.{option_map_or}
 use Rattle.ap_bits.specs.Cards.{operation_value}
-use Rattle.ap_bits.specs.Operations.{binary_value, bits_of, floor_of, high_bits, ones_among, rotated, sign_extended, signed, unary_value, zeros_above}
+use Rattle.ap_bits.specs.Operations.{binary_value, bits_of, floor_of, high_bits, ones_among, sign_extended, signed, unary_value, zeros_above}
 use Rattle.ap_bits.specs.Terms.{level_value, term_value}
 use Rattle.ap_bits.specs.declared.card.Card.{Card}
 use Rattle.ap_bits.specs.declared.card.OpCard.{OpCard}

@@ -27,7 +27,7 @@ pub fn prefix()
         (landings : List ℕ) (drain : ℕ) (storage : Storage)
         → IsSpacedRun design cards image trace c landings drain
         → IsPrefix (writes_of storage (log_writes (over design cards image trace c).log))
-            (writes_of storage (log_writes (one_at_a_time design cards image trace c).log)) }
+        (writes_of storage (log_writes (one_at_a_time design cards image trace c).log)) }
     ensures stands { (design : Design) (cards : List Card) (image : Image) (trace : Trace) (c later : ℕ)
         (landings : List ℕ) (drain : ℕ) (entry : Entry)
         → IsSpacedRun design cards image trace c landings drain

@@ -1,9 +1,3 @@
-use Rattle.std.proofs.Common.{ℕ, List}
-use Rattle.ap_bits.specs.declared.card.Card.{Card}
-use Rattle.ap_desc.specs.declared.design.Design.{Design}
-use Rattle.ap_image.specs.declared.image.Image.{Image}
-use Rattle.ap_image.specs.declared.trace.Trace.{Trace}
-use Rattle.ap_space.specs.Prefix.{IsSpacedRun}
 use Rattle.ap_space.proofs.Law.{law_entries, law_rows, law_stands, law_writes}
 use Rattle.ap_space.proofs.laws.prefix.Goals as goal
 
