@@ -37,3 +37,4 @@ pub mod EffectFits
 pub mod MachineFits
 pub mod StepFits
 pub mod Deep
+pub mod Members
