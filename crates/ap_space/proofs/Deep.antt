@@ -1,7 +1,7 @@
 -- Numbers that are so far that no transfer kills them any more; and that no number falls back.
-use Rattle.std.proofs.Common.{◌≡◌, ℕ, suc, ◌+◌, ◌≤◌, ◌<◌, Bool, true, false, ◌⊎◌, inl, inr, arith}
+use Rattle.std.proofs.Common.{◌≡◌, ℕ, ◌+◌, ◌≤◌, ◌<◌, Bool, true, false, ◌⊎◌, inl, inr, arith}
 use Rattle.std.proofs.lemmas.Bool.{cases_Bool, cases_lt, cases_order}
-use Rattle.ap_space.proofs.Tracks.{Fetches, Frame, IsFrame, IsTrack, IsTurn, Kind, Takes, Track, Waits}
+use Rattle.ap_space.proofs.Tracks.{Frame, IsFrame, IsTrack, IsTurn, Kind, Takes, Track}
 use Rattle.ap_space.proofs.Tracks.Kind.{fetches, takes, waits}
 
 -- no number falls back

@@ -1,7 +1,7 @@
 -- A pipeline by the stages and places of its numbered words, and what a cycle does to them: words in flight keep their order, and the
 -- slots of a transfer follow it stage by stage.
 use Rattle.std.proofs.Common.{◌≡◌, ℕ, suc, ◌+◌, ◌-◌, ◌≤◌, ◌<◌, ◌%◌, Bool, true, false, ◌⊎◌, inl, inr, refl, sym, ap, ◌∙◌, subst, arith}
-use Rattle.std.proofs.lemmas.Bool.{cases_Bool, cases_lt, cases_order, both_ways}
+use Rattle.std.proofs.lemmas.Bool.{cases_lt, cases_order, both_ways}
 use Rattle.std.proofs.Math.Nat.{add-mod-mod, mod-eq_of_lt}
 
 -- how many words were fetched and not killed; the stage that each has come to, 0 for one that isn't fetched yet and the number of stages
