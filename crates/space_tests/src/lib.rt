@@ -1,0 +1,4 @@
+//! Worked rows on the law of spaced programs, computed on the definitions.
+#![tactic(auto)]
+
+pub mod rows;
