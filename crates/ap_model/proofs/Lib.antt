@@ -1,11 +1,13 @@
 pub mod AskedByLine
 pub mod CountedLaws
+pub mod EffectFits
 pub mod FlightLocals
 pub mod HeldCycles
 pub mod HeldStages
 pub mod LineOrder
 pub mod LinesFire
 pub mod ListLemmas
+pub mod MachineFits
 pub mod MachineLaws
 pub mod OneTransfer
 pub mod PlainWidths
@@ -17,6 +19,7 @@ pub mod ReadEffects
 pub mod Readings
 pub mod StableAsks
 pub mod StageLemmas
+pub mod StepFits
 pub mod UnitNeeds
 pub mod UsedPorts
 pub mod Worked

@@ -21,7 +21,7 @@ use Rattle.ap_plain.specs.Scenes.{control_of_scene}
 use Rattle.ap_model.specs.ShownRows.{cycle_row, row, rows_of}
 use Rattle.ap_model.specs.Stalls.{busy_from, is_held_stage}
 use Rattle.ap_model.specs.States.{start}
-use Rattle.ap_plain.proofs.MachineFits.{empty_fits, fetched_fits, greatest_within, start_fits}
+use Rattle.ap_plain.proofs.UnkilledNumbers.{greatest_within}
 use Rattle.ap_plain.proofs.RunLemmas.{rows_more}
 
 -- the program goes by what decides on the cycle
@@ -29,39 +29,6 @@ pub control_same : (scene : Scene) → scene.busy.now ≡ busy_from scene.design
     → control_of_scene scene ≡ control_of scene.design.now scene.cards.now scene.inputs.now scene.state.now
 unfolding control_of
 control_same scene busy taken = λ i. record { held = is_held_stage scene.design.now (busy i); taken = taken i }
-
--- the pc stays an address
-pub next_pc_fits : (design : Design) (state : State) (control : CycleControl) → state.pc < 2 ^ design.address → IfSome control.taken (λ t. t < 2 ^ design.address) → next_pc design state control < 2 ^ design.address
-next_pc_fits design state control pc taken = go (control.held 0) control.taken taken
-  where
-    go : (b : Bool) (o : Option ℕ) → IfSome o (λ t. t < 2 ^ design.address) → (if b then state.pc else unwrap_or o ((state.pc + 1) % 2 ^ design.address)) < 2 ^ design.address
-    go true o h = pc
-    go false None h = mod-lt (state.pc + 1) (pow_pos design.address)
-    go false (Some t) h = h
-
-pub entering_fits : (design : Design) (cards : List Card) (image : Image) (state : State) (control : CycleControl) → IsRunnable design cards → ImageFitsShape image (shape_of design) → state.pc < 2 ^ design.address
-    → IfSome (entering design image state control) (FlightFits design 1)
-entering_fits design cards image state control fits shaped pc = go (control.held 0 || is_killed design control 0)
-  where
-    go : (b : Bool) → IfSome (if b then None else Some (fetched image state)) (FlightFits design 1)
-    go true = tt
-    go false = fetched_fits design cards image state fits shaped pc
-
-flights_length : (design : Design) (cards : List Card) (inputs : TraceLine) (state : State) (control : CycleControl) (stage : ℕ) (coming : Option Flight) (flights : List (Option Flight))
-    → length (flights_from design cards inputs state control stage coming flights) ≡ length flights
-flights_length design cards inputs state control stage coming [] = refl
-flights_length design cards inputs state control stage coming (flight ∷ flights) = ap suc (flights_length design cards inputs state control (stage + 1) (leaving design cards inputs state control stage flight) flights)
-
--- the state after a cycle fits, where its flights and storages do
-pub after_fits : (design : Design) (cards : List Card) (image : Image) (inputs : TraceLine) (state next : State) (control : CycleControl) → StateFits design state → IfSome control.taken (λ t. t < 2 ^ design.address)
-    → next ≡ after_control design cards image inputs state control → FlightsFit design 1 next.flights → StoragesFit design next.storages → StateFits design next
-unfolding after_control cycle_flights
-after_fits design cards image inputs state next control fits taken same flights storages = record {
-  pc = subst (λ n. n < 2 ^ design.address) (sym (ap (λ (s : State). s.pc) same)) (next_pc_fits design state control fits.pc taken);
-  storages = storages;
-  flights = flights;
-  count = ap (λ (s : State). length s.flights) same ∙ flights_length design cards inputs state control 1 (entering design image state control) state.flights ∙ fits.count;
-}
 
 -- a design has few stages
 pub few_stages : (design : Design) (cards : List Card) (state : State) → IsRunnable design cards → StateFits design state → length state.flights < 50
@@ -143,19 +110,6 @@ counts_next design cards image inputs state limit counts =
 nothing_each : (P : Flight → Type 0) (n : ℕ) → Each (λ o. IfSome o P) (replicate n None)
 nothing_each P zero = tt
 nothing_each P (suc n) = (tt, nothing_each P n)
-
-length_empty : (n : ℕ) → length {A = Option Flight} (replicate n None) ≡ n
-length_empty zero = refl
-length_empty (suc n) = ap suc (length_empty n)
-
-pub start_state_fits : (design : Design) (cards : List Card) (image : Image) → IsRunnable design cards → ImageFitsShape image (shape_of design) → StateFits design (start design image)
-unfolding start
-start_state_fits design cards image fits shaped = record {
-  pc = pow_pos design.address;
-  storages = start_fits design cards image fits shaped;
-  flights = empty_fits design 1 (design.stages - 1);
-  count = length_empty (design.stages - 1);
-}
 
 pub start_counts : (design : Design) (image : Image) → CountsWithin 0 (start design image)
 unfolding start

@@ -55,7 +55,7 @@ fn flight_at(state: &State, stage: u32) -> Option<&Flight>
 }
 
 /// The target of the transfer that is taken.
-#[tactic(auto, using(crate::proofs::MachineFits::transfer_fits))]
+#[tactic(auto, using(ap_model::proofs::MachineFits::transfer_fits))]
 pub(crate) fn taken_transfer(
     alloc: Global,
     design: &Design,
@@ -137,7 +137,7 @@ fn greatest(numbers: &[u64]) -> u64
 }
 
 /// The next number after the cycle.
-#[tactic(auto, using(crate::proofs::MachineFits::greatest_within))]
+#[tactic(auto, using(crate::proofs::UnkilledNumbers::greatest_within))]
 fn next_number(alloc: Global, scene: &Scene) -> Result<u64, NoMemory>
     requires room { length scene.now.state.now.flights < 50 }
     requires counts { CountsWithin (2 ^ 62) scene.now.state.now }

@@ -203,7 +203,7 @@ fn writes(
 }
 
 /// What the lines of a stage do.
-#[tactic(auto, using(crate::proofs::EffectLemmas::few_parts, ap_model::proofs::PlainWidths::place_within))]
+#[tactic(auto, using(ap_model::proofs::EffectFits::few_parts, ap_model::proofs::PlainWidths::place_within))]
 fn lines_effect(
     alloc: Global,
     view: &View,

@@ -27,9 +27,9 @@ use Rattle.ap_model.specs.Fire.{Sight, act_value, arg_value, bits_of_arg, instr_
 use Rattle.ap_model.specs.Fitting.{EffectFits, EntriesFit, FlightFits, FlightsFit, GoesByLine, IsGood, LocalsFit, LocalsStand, PortsFit, SightFits, StateFits, StoragesFit, locals_after_line, port_width, width_of_act}
 use Rattle.ap_model.specs.Runnable.{IsRunnable}
 use Rattle.ap_model.specs.Stored.{with_writes}
-use Rattle.ap_space.proofs.EffectFits.{fired_none, fired_some, sight_fits}
-use Rattle.ap_space.proofs.MachineFits.{inputs_fit, transfer_fits, writes_keep}
-use Rattle.ap_space.proofs.StepFits.{after_fits, entering_fits, start_state_fits}
+use Rattle.ap_model.proofs.EffectFits.{fired_none, fired_some, sight_fits}
+use Rattle.ap_model.proofs.MachineFits.{inputs_fit, transfer_fits, writes_keep}
+use Rattle.ap_model.proofs.StepFits.{after_fits, entering_fits, start_state_fits}
 use Rattle.ap_space.proofs.Lists.{each_append, each_map}
 use Rattle.ap_space.proofs.Runs.{TargetsFit, control_at, line_of, state_at, state_next, taken_by_flight}
 use Rattle.ap_space.proofs.Values.{extended_fits, operation_fits}

@@ -6,7 +6,7 @@ use Rattle.ap_model.specs.declared.state.Entry.{Entry}
 use Rattle.ap_model.specs.declared.state.Pass.{Pass}
 use Rattle.ap_model.specs.declared.state.Sample.{Sample}
 use Rattle.ap_model.specs.declared.storage.Storages.{Storages}
-use Rattle.ap_plain.proofs.MachineFits.{writes_keep}
+use Rattle.ap_model.proofs.MachineFits.{writes_keep}
 use Rattle.ap_plain.proofs.SceneLemmas.{after_control_is, writes_of_fit}
 use Rattle.ap_plain.proofs.cycle.after_control.Goals as goal
 

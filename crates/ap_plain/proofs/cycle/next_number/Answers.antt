@@ -1,6 +1,6 @@
 use Rattle.std.proofs.Common.{◌≤◌, ◌^◌, rules}
 use Rattle.ap_plain.specs.Scenes.{control_of_scene}
-use Rattle.ap_plain.proofs.MachineFits.{greatest_within}
+use Rattle.ap_plain.proofs.UnkilledNumbers.{greatest_within}
 use Rattle.ap_plain.proofs.cycle.next_number.Goals as goal
 
 pub overflow_add-result : goal.overflow_add-result

@@ -1,4 +1,4 @@
-use Rattle.ap_plain.proofs.MachineFits.{transfer_fits}
+use Rattle.ap_model.proofs.MachineFits.{transfer_fits}
 use Rattle.ap_plain.proofs.cycle.taken_transfer.Goals as goal
 
 pub fire-requires-clause-flight : goal.fire-requires-clause-flight

@@ -2,8 +2,9 @@ use Rattle.std.proofs.Common.{◌+◌, ◌≤◌, ◌^◌, subst, sym, ◌∙◌
 use Rattle.ap_image.specs.declared.trace.TraceLine.{TraceLine}
 use Rattle.ap_model.specs.Fitting.{CountsWithin, PortsFit, StateFits}
 use Rattle.ap_model.specs.declared.state.State.{State}
-use Rattle.ap_plain.proofs.MachineFits.{inputs_fit}
-use Rattle.ap_plain.proofs.StepLemmas.{counts_grow, counts_next, over_next, over_none, rows_next, rows_none, start_counts, start_state_fits}
+use Rattle.ap_model.proofs.MachineFits.{inputs_fit}
+use Rattle.ap_plain.proofs.StepLemmas.{counts_grow, counts_next, over_next, over_none, rows_next, rows_none, start_counts}
+use Rattle.ap_model.proofs.StepFits.{start_state_fits}
 use Rattle.ap_plain.proofs.run.rows.Goals as goal
 
 pub loop-j-init : goal.loop-j-init

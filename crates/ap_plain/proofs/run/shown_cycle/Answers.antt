@@ -3,7 +3,8 @@ use Rattle.ap_model.specs.Cycles.{after_control, cycle}
 use Rattle.ap_plain.specs.Scenes.{control_of_scene}
 use Rattle.ap_model.specs.ShownRows.{control_row, cycle_row}
 use Rattle.ap_plain.specs.declared.scene.Scene.{Scene}
-use Rattle.ap_plain.proofs.StepLemmas.{after_fits, control_same, entering_fits}
+use Rattle.ap_plain.proofs.StepLemmas.{control_same}
+use Rattle.ap_model.proofs.StepFits.{after_fits, entering_fits}
 use Rattle.ap_plain.proofs.run.shown_cycle.Goals as goal
 
 pub after_control-requires-clause-coming : goal.after_control-requires-clause-coming

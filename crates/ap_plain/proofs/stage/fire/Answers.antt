@@ -1,5 +1,5 @@
 use Rattle.std.proofs.Common.{sym, ◌∙◌}
-use Rattle.ap_plain.proofs.EffectLemmas.{fired_none, fired_some}
+use Rattle.ap_model.proofs.EffectFits.{fired_none, fired_some}
 use Rattle.ap_model.proofs.StageLemmas.{word_is_good}
 use Rattle.ap_plain.proofs.stage.fire.Goals as goal
 

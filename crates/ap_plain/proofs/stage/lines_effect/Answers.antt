@@ -1,7 +1,7 @@
 use Rattle.std.proofs.Common.{slice_get, ap, ◌∙◌}
 use Rattle.ap_model.specs.Fire.{lines_in, ordered}
 use Rattle.ap_plain.specs.PlainViews.{sight_of}
-use Rattle.ap_plain.proofs.EffectLemmas.{lines_effect_is}
+use Rattle.ap_model.proofs.EffectFits.{lines_effect_is}
 use Rattle.ap_plain.proofs.stage.lines_effect.Goals as goal
 
 pub returns-clause-value : goal.returns-clause-value

@@ -12,7 +12,7 @@ use Rattle.ap_model.specs.Cycles.{CycleControl, after_control, cycle_flights, en
 use Rattle.ap_model.specs.DesignShape.{shape_of}
 use Rattle.ap_model.specs.Fitting.{FlightFits, FlightsFit, StateFits, StoragesFit}
 use Rattle.ap_model.specs.States.{start}
-use Rattle.ap_space.proofs.MachineFits.{empty_fits, fetched_fits, start_fits}
+use Rattle.ap_model.proofs.MachineFits.{empty_fits, fetched_fits, start_fits}
 
 -- the pc stays an address
 pub next_pc_fits : (design : Design) (state : State) (control : CycleControl) → state.pc < 2 ^ design.address → IfSome control.taken (λ t. t < 2 ^ design.address) → next_pc design state control < 2 ^ design.address
