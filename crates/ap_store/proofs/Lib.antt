@@ -1,0 +1,16 @@
+mod Ranges
+mod FileShapes
+mod Orders
+mod Hot
+mod Lines
+mod Chosen
+mod FileNames
+mod Grown
+mod Depended
+mod ReadPorts
+mod WritePorts
+mod Drivers
+mod PortPlaces
+mod Circuits
+mod Whole
+mod FileNeeds

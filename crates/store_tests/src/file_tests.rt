@@ -1,0 +1,142 @@
+//! Register files, cycle by cycle: the values were worked out by hand from the rules of writes.
+ghost use Rattle.std.specs.Prelude.{◌<◌, All, IsTrue};
+
+use crate::bench::Bench;
+use ap_bits::Name;
+use ap_desc::design::File;
+use ap_store::{file_module, is_within};
+use std::alloc::Global;
+use std::process::Abort;
+use std::test::Fail;
+
+/// The inputs of a cycle in the order of the ports, and the values that the read ports show.
+struct Cycle {
+    inputs: &'static [u64],
+    shown: &'static [u64],
+}
+
+/// What a file shows in some cycles, and its cells after them.
+struct Run {
+    cells: u32,
+    width: u32,
+    reads: u32,
+    writes: u32,
+    stages: &'static [u32],
+    cycles: &'static [Cycle],
+    held: &'static [u64],
+}
+
+/// Inputs are for each read port the index, then for each write port the enable, the index and the value.
+const RUNS: &[Run] = &[
+    // Both write cell 1, port 0 in stage 2 and port 1 in stage 3: the younger instruction's value, 9, stands. The read of the
+    // cell in that cycle shows what it held before.
+    Run {
+        cells: 2,
+        width: 8,
+        reads: 1,
+        writes: 2,
+        stages: &[2, 3],
+        cycles: &[
+            Cycle { inputs: &[1, 1, 1, 9, 1, 1, 7], shown: &[0] },
+            Cycle { inputs: &[1, 0, 0, 0, 0, 0, 0], shown: &[9] },
+        ],
+        held: &[0, 9],
+    },
+    // The same with the stages the other way round.
+    Run {
+        cells: 2,
+        width: 8,
+        reads: 1,
+        writes: 2,
+        stages: &[3, 2],
+        cycles: &[Cycle { inputs: &[0, 1, 1, 9, 1, 1, 7], shown: &[0] }],
+        held: &[0, 7],
+    },
+    // Both in one stage: the higher port number stands. Then they write two cells, of which one is written once more.
+    Run {
+        cells: 4,
+        width: 4,
+        reads: 2,
+        writes: 2,
+        stages: &[5, 5],
+        cycles: &[
+            Cycle { inputs: &[0, 3, 1, 3, 6, 1, 3, 11], shown: &[0, 0] },
+            Cycle { inputs: &[3, 0, 1, 0, 5, 1, 2, 15], shown: &[11, 0] },
+            Cycle { inputs: &[0, 2, 0, 0, 1, 1, 0, 2], shown: &[5, 15] },
+            Cycle { inputs: &[0, 1, 0, 0, 0, 0, 0, 0], shown: &[2, 0] },
+        ],
+        held: &[2, 0, 15, 11],
+    },
+    // Nothing is written through a port that no line uses.
+    Run {
+        cells: 2,
+        width: 64,
+        reads: 1,
+        writes: 2,
+        stages: &[1, 0],
+        cycles: &[
+            Cycle { inputs: &[0, 1, 0, u64::MAX, 1, 1, 7], shown: &[0] },
+            Cycle { inputs: &[1, 0, 0, 0, 1, 0, 7], shown: &[0] },
+        ],
+        held: &[u64::MAX, 0],
+    },
+    // One write port, three read ports, eight cells.
+    Run {
+        cells: 8,
+        width: 1,
+        reads: 3,
+        writes: 1,
+        stages: &[7],
+        cycles: &[
+            Cycle { inputs: &[5, 4, 1, 1, 5, 1], shown: &[0, 0, 0] },
+            Cycle { inputs: &[5, 4, 1, 1, 4, 1], shown: &[1, 0, 0] },
+            Cycle { inputs: &[5, 4, 1, 1, 5, 0], shown: &[1, 1, 0] },
+        ],
+        held: &[0, 0, 0, 0, 1, 0, 0, 0],
+    },
+];
+
+/// Whether each is a stage, or 0.
+fn are_stages(stages: &[u32]) -> bool
+    ensures { IsTrue result → All (λ stage. stage < 8) stages.now }
+{
+    stages.iter().all(|stage| *stage < 8)
+}
+
+/// Runs a file through its cycles.
+fn expect_run(rt: &impl Abort, alloc: Global, run: &Run) -> Result<(), Fail> {
+    let file = File {
+        name: Name::new(alloc, b"F")?,
+        width: run.width,
+        cells: run.cells,
+        reads: run.reads,
+        writes: run.writes,
+    };
+    let stages = run.stages;
+    if !is_within(&file) || stages.len() != file.writes as usize || !are_stages(stages) {
+        panic!(rt; "no file has these numbers")
+    }
+    let module = file_module(alloc, &file, stages)?;
+    assert_eq!(rt; module.name().as_str(), "rf_F");
+    let mut bench = Bench::start(alloc, &module)?;
+    for cycle in run.cycles {
+        bench.settle(&module, cycle.inputs);
+        for (port, value) in cycle.shown.iter().enumerate() {
+            assert_eq!(rt; bench.get(2 * port + 1), *value);
+        }
+        bench.edge(&module)?;
+    }
+    for (next, value) in module.nexts().iter().zip(run.held) {
+        assert_eq!(rt; bench.get(next.register.number), *value);
+    }
+    Ok(())
+}
+
+#[test]
+fn reads_and_writes_cells(rt: HostRuntime) -> Result<(), Fail> {
+    let alloc = rt.alloc();
+    for run in RUNS {
+        expect_run(&rt, alloc, run)?;
+    }
+    Ok(())
+}
