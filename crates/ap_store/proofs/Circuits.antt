@@ -36,7 +36,7 @@ cell_wire_at width count k w at lt =
     let here : 0 + k ≡ k = omega arith in
     sym (some_same (sym (map_at (cell_wire width) 0 count k lt) ∙ at)) ∙ ap (cell_wire width) here
 
-starts_with_cells : (name : List ℕ) (file : File) → StartsWithCells (with_cells name file file.cells) file
+pub starts_with_cells : (name : List ℕ) (file : File) → StartsWithCells (with_cells name file file.cells) file
 starts_with_cells name file = ([], sym (append-nil (cell_nets file file.cells)))
 
 -- cells are nets of the file's width
@@ -135,3 +135,7 @@ module _ (name : List ℕ) (file : File) (stages : List ℕ) (d0 d1 d2 d3 : Draf
         let v = value read s in
         paired_from read cells next long ∙ v.1 ∙ ap (λ l. after_writes l (ports_write read ports stages)) (sym (paired_held read cells next long));
   }
+
+-- the cells are those of a draft of this name
+pub named_again : (d : Draft) (name : List ℕ) (file : File) (count : ℕ) → d ≡ with_cells name file count → d ≡ with_cells d.name file count
+named_again d name file count e = e ∙ ap (λ n. with_cells n file count) (sym (ap (λ (x : Draft). x.name) e))

@@ -89,3 +89,7 @@ pub each_pair : (P : Next → Type 0) (cells nets : List Wire) → length nets �
 each_pair P [] nets long f = tt
 each_pair P (x ∷ cells) [] long f = absurd (omega arith)
 each_pair P (x ∷ cells) (y ∷ nets) long f = (f zero x y refl refl, each_pair P cells nets (omega arith) (λ i c n p q. f (suc i) c n p q))
+
+-- what stands for a net where there is none
+abbrev pub none : Wire
+none = record { number = 0; width = 0 }

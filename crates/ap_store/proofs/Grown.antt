@@ -7,18 +7,20 @@ use Rattle.std.proofs.lemmas.List.Elements.{filter_map-append}
 use Rattle.std.proofs.lemmas.List.FromFn.{length-map-range_with_len}
 use Rattle.std.proofs.lemmas.Option.{slice_get_within}
 use Rattle.ap_desc.specs.declared.design.File.{File}
+use Rattle.ap_net.specs.declared.cell.Wire.{Wire}
 use Rattle.ap_net.specs.declared.net.Role.TheVariants as role
 use Rattle.ap_net.specs.declared.net.ModuleNet.{ModuleNet}
 use Rattle.ap_net.specs.declared.net.Port.{Port}
 use Rattle.ap_net.specs.Names.{IsNew, IsNotNumbered}
 use Rattle.ap_net.specs.Wiring.{IsSource, names_taken, reset_of}
 use Rattle.ap_net.specs.Modules.{port_by, ports_among}
-use Rattle.ap_net.specs.Draft.{Adds, Begins, CanFresh, Draft, Extends, KeepsFresh, RegistersBelow, names_of, with_net}
+use Rattle.ap_net.specs.Draft.{Adds, Begins, CanFresh, Draft, Extends, KeepsFresh, RegistersBelow, names_of, next_wire, with_net}
 use Rattle.ap_net.specs.Ready.{AllReady, AreReady, Dependence, Ready}
 use Rattle.ap_net.specs.Making.{Closes, Makes}
 use Rattle.ap_net.proofs.Lists.{All-front, All-back, get_end}
 use Rattle.ap_net.proofs.Drafts.{Adds-declare, one_more_net}
 use Rattle.ap_net.proofs.Laws.{Adds-refl, Adds-trans, Extends-refl, IsNew-made, Ready-Extends, Ready-source, stays}
+use Rattle.ap_unit.specs.Pieces.{input_net}
 use Rattle.ap_store.specs.Building.{Grows, LooksNowhere, StartsWithCells, cell_nets, with_cells}
 use Rattle.ap_store.specs.FileModules.{cell_net}
 use Rattle.ap_store.proofs.Ranges.{map_at}
@@ -123,3 +125,31 @@ cells_below name file count n net at is =
     let long : length (cell_nets file count) ≡ count = length-map-range_with_len (cell_net file) 0 count in
     let within : n < length (cell_nets file count) = slice_get_within (cell_nets file count) n net at in
     omega arith
+
+-- names that are new stay so, where they aren't among those that came
+pub new_after : (named names : List (List ℕ)) (a b : Draft) → Grows named a b → Each IsNotNumbered names → Each (λ name. IsNew name named) names → Each (λ name. IsNew name (names_of a)) names → Each (λ name. IsNew name (names_of b)) names
+new_after named [] a b g other apart new = tt
+new_after named (name ∷ names) a b g other apart new = (g.names name other.0 apart.0 new.0, new_after named names a b g other.1 apart.1 new.1)
+
+-- an input under a name that is given in other words
+pub input_is : (a b : Draft) (given name : List ℕ) (wide width : ℕ) → given ≡ name → wide ≡ width → b ≡ with_net a given wide role.Input → b ≡ with_net a name width role.Input
+input_is a b given name wide width same_name same_width is = is ∙ (λ i. with_net a (same_name i) (same_width i) role.Input)
+
+pub grows_input : (a b : Draft) (given name : List ℕ) (width : ℕ) → given ≡ name → b ≡ with_net a name width role.Input → KeepsFresh given a b → IsNotNumbered name → Grows (name ∷ []) a b
+grows_input a b given name width same is fresh other =
+    let kept : KeepsFresh name a b = subst (λ n. KeepsFresh n a b) same fresh in
+    subst (Grows (name ∷ []) a) (sym is) (Grows-input a name width (subst (KeepsFresh name a) is kept) other)
+
+-- a name stays new beside an input of another name
+pub new_beside_input : (a b : Draft) (name other : List ℕ) (width : ℕ) → b ≡ with_net a name width role.Input → name ≢ other → IsNew other (names_of a) → IsNew other (names_of b)
+new_beside_input a b name other width is ne new = subst (λ (d : Draft). IsNew other (names_of d)) (sym is) (IsNew-made a.instances a.nets (input_of name width) other ne new)
+
+-- an input that was just declared is there
+pub input_there : (a b : Draft) (name : List ℕ) (width : ℕ) (w : Wire) → b ≡ with_net a name width role.Input → w ≡ next_wire a width → slice_get b.nets w.number ≡ Some (input_net name width)
+input_there a b name width w is wire_is =
+    let number : w.number ≡ length a.nets = ap (λ (v : Wire). v.number) wire_is in
+    ap (λ (d : Draft). slice_get d.nets w.number) is ∙ ap (slice_get (a.nets ++ input_net name width ∷ [])) number ∙ get_end a.nets (input_net name width)
+
+-- the ports with it
+pub input_shown : (a b : Draft) (name : List ℕ) (width : ℕ) → b ≡ with_net a name width role.Input → ports_among b.nets ≡ ports_among a.nets ++ record { name = name; width = width; output = false } ∷ []
+input_shown a b name width is = ap (λ (d : Draft). ports_among d.nets) is ∙ ports_among-input a.nets name width

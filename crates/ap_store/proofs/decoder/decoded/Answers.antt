@@ -1,4 +1,4 @@
-use Rattle.std.proofs.Common.{◌≡◌, ◌-◌, ◌<◌, ◌^◌, ◌∙◌, ap, arith, refl, sym}
+use Rattle.std.proofs.Common.{[], ◌≡◌, ◌-◌, ◌<◌, ◌^◌, ◌∙◌, ap, arith, refl, sym}
 use Rattle.ap_store.specs.Writers.{split_lines}
 use Rattle.std.proofs.lemmas.List.Elements.{All-nil, All-push, All-weaker}
 use Rattle.ap_net.proofs.Laws.{IsNet-Makes, Makes-refl, Makes-trans}
@@ -11,7 +11,7 @@ pub loop-place-init : goal.loop-place-init
 loop-place-init c = record {
   within = omega arith;
   count = rw (c.in_ok-push.ensures.items, c.new-lines.ensures.items) (let none : 0 ≡ c.args.index.width - c.args.index.width = omega arith in ap (λ k. 2 ^ k) none);
-  nets = rw (c.in_ok-push.ensures.items, c.new-lines.ensures.items) (All-push (IsOfWidth c.args.out.now.nets 1) _ _ (All-nil (IsOfWidth c.args.out.now.nets 1)) c.requires.on);
+  nets = rw (c.in_ok-push.ensures.items, c.new-lines.ensures.items) (All-push (IsOfWidth c.args.out.now.nets 1) [] c.args.on (All-nil (IsOfWidth c.args.out.now.nets 1)) c.requires.on);
   value = λ read s. (s, rw (c.in_ok-push.ensures.items, c.new-lines.ensures.items) (first_hot (read c.args.on.number) (read c.args.index.number) c.args.index.width (s.fits _ _ c.requires.index.declared)));
   makes = Makes-refl _;
 }
