@@ -27,11 +27,11 @@ written_cells zero at value cells made long small within each =
 written_cells (suc zero) at value cells made long small within each =
     ext_get_or 0 made (set cells at value) (long ∙ sym (length-set cells at value)) (λ j lt. elim (cases_eq j at) [
       | inl same ↦
-      let test : (j == at) ≡ true = eq-eqb j at same in
-      each j (omega arith) ∙ ap (λ t. if (if t then 1 else 0) == 1 then value else get_or cells j 0) test ∙ sym (get_or-set_same cells at value 0 within) ∙ ap (λ k. get_or (set cells at value) k 0) (sym same)
+          let test : (j == at) ≡ true = eq-eqb j at same in
+          each j (omega arith) ∙ ap (λ t. if (if t then 1 else 0) == 1 then value else get_or cells j 0) test ∙ sym (get_or-set_same cells at value 0 within) ∙ ap (λ k. get_or (set cells at value) k 0) (sym same)
       | inr other ↦
-      let test : (j == at) ≡ false = ne_eqb j at other in
-      each j (omega arith) ∙ ap (λ t. if (if t then 1 else 0) == 1 then value else get_or cells j 0) test ∙ sym (get_or-set_other cells at j value 0 other)
+          let test : (j == at) ≡ false = ne_eqb j at other in
+          each j (omega arith) ∙ ap (λ t. if (if t then 1 else 0) == 1 then value else get_or cells j 0) test ∙ sym (get_or-set_other cells at j value 0 other)
     ])
 written_cells (suc (suc n)) at value cells made long small within each = absurd (omega arith)
 

@@ -76,6 +76,7 @@ ready_nexts by d nexts all n lt = moved n (all n lt)
     moved_feeds n from (source net at is same) = source net at is same
     moved_feeds n from (assign k a at to same) = assign k a at to same
     moved_feeds n from (output k p i w at net flag to same) = output k p i w at net flag to same
+
     moved : (n : ℕ) → Ready by d n → Ready by (record d { nexts = nexts }) n
     moved n (ready from feeds each) = ready from (moved_feeds n from feeds) (λ j m at. moved m (each j m at))
 

@@ -70,8 +70,8 @@ module _ (by : Dependence) (d : Draft) (wired : IsWired d.nets d.assigns d.nexts
         itself = or_left (n == n) (all.among n) (eq-eqb n n refl);
         closed = Each-at (λ (a : Assign). IsTrue (both a.to.number) → Each (λ (o : Wire). IsTrue (both o.number)) (operands a.cell)) d.assigns (λ k a at is. elim (or_cases (a.to.number == n) (all.among a.to.number) is) [
           | inl here ↦
-          let same : from ≡ numbers (operands a.cell) = unique by d wired connected n from (numbers (operands a.cell)) feeds (assign k a at (eqb-true a.to.number n here) refl) in
-          larger all.among both (λ x yes. or_right (x == n) (all.among x) yes) a (All-unmap (λ x. all.among x ≡ true) (λ (o : Wire). o.number) (operands a.cell) (subst (Each (λ x. all.among x ≡ true)) same all.each))
+              let same : from ≡ numbers (operands a.cell) = unique by d wired connected n from (numbers (operands a.cell)) feeds (assign k a at (eqb-true a.to.number n here) refl) in
+              larger all.among both (λ x yes. or_right (x == n) (all.among x) yes) a (All-unmap (λ x. all.among x ≡ true) (λ (o : Wire). o.number) (operands a.cell) (subst (Each (λ x. all.among x ≡ true)) same all.each))
           | inr there ↦ larger all.among both (λ x yes. or_right (x == n) (all.among x) yes) a (All-at (λ (x : Assign). IsTrue (all.among x.to.number) → Each (λ (o : Wire). IsTrue (all.among o.number)) (operands x.cell)) d.assigns k a all.closed at there)
         ]);
         leaves = λ q net at is self. or_from (q == n) (all.among q) (ne_eqb q n (λ e. its_own n from feeds all q net at is self e)) (all.leaves q net at is self);

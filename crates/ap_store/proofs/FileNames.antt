@@ -117,9 +117,14 @@ other_cell j k low small ne e = let same : decimal j ≡ decimal k = cc in ne (d
 
 -- a name that is new beside the cells
 beside_cells : (module_name : List ℕ) (file : File) (count : ℕ) (name : List ℕ) → codes "clk" ≢ name → codes "rst" ≢ name → ((j : ℕ) → j < count → cell_name j ≢ name) → IsNew name (names_of (with_cells module_name file count))
-beside_cells module_name file count name clk rst cells = (clk, (rst,
+beside_cells module_name file count name clk rst cells = (
+  clk,
+  (
+    rst,
     All-map (λ other. other ≢ name) (λ (n : ModuleNet). n.name) _
-    (All-map (λ (n : ModuleNet). n.name ≢ name) (cell_net file) (range_with_len 0 count) (each_in_range (λ j. cell_name j ≢ name) 0 count (λ j low high. cells j (omega arith))))))
+        (All-map (λ (n : ModuleNet). n.name ≢ name) (cell_net file) (range_with_len 0 count) (each_in_range (λ j. cell_name j ≢ name) 0 count (λ j low high. cells j (omega arith)))),
+  ),
+)
 
 pub cell_is_new : (module_name : List ℕ) (file : File) (k : ℕ) → k < 2 ^ 64 → IsNew (cell_name k) (names_of (with_cells module_name file k))
 cell_is_new module_name file k small =
@@ -144,8 +149,10 @@ reads_beside_cells module_name file count k lt = (
 pub writes_beside_cells : (module_name : List ℕ) (file : File) (count k : ℕ) → Each (λ name. IsNew name (names_of (with_cells module_name file count))) (write_names k)
 writes_beside_cells module_name file count k = (
   other_beside module_name file count (write_enable_name k) refl (other_letter 114 (codes "rst") (write_enable_name k) refl refl),
-  (other_beside module_name file count (write_index_name k) refl (other_letter 114 (codes "rst") (write_index_name k) refl refl),
-  (other_beside module_name file count (write_value_name k) refl (other_letter 114 (codes "rst") (write_value_name k) refl refl), tt)),
+  (
+    other_beside module_name file count (write_index_name k) refl (other_letter 114 (codes "rst") (write_index_name k) refl refl),
+    (other_beside module_name file count (write_value_name k) refl (other_letter 114 (codes "rst") (write_value_name k) refl refl), tt),
+  ),
 )
 
 -- Ports beside earlier ones.
@@ -177,8 +184,10 @@ writes_differ j k lt few =
 pub writes_beside_writes : (k : ℕ) → k < 2 → Each (λ name. IsNew name (names_below write_names k)) (write_names k)
 writes_beside_writes k few = (
   each_made (λ other. other ≢ write_enable_name k) write_names 0 k (λ j low high. (writes_differ j k (omega arith) few).0),
-  (each_made (λ other. other ≢ write_index_name k) write_names 0 k (λ j low high. (writes_differ j k (omega arith) few).1.0),
-  (each_made (λ other. other ≢ write_value_name k) write_names 0 k (λ j low high. (writes_differ j k (omega arith) few).1.1.0), tt)),
+  (
+    each_made (λ other. other ≢ write_index_name k) write_names 0 k (λ j low high. (writes_differ j k (omega arith) few).1.0),
+    (each_made (λ other. other ≢ write_value_name k) write_names 0 k (λ j low high. (writes_differ j k (omega arith) few).1.1.0), tt),
+  ),
 )
 
 -- Write ports beside read ports.
@@ -186,8 +195,10 @@ writes_beside_writes k few = (
 pub writes_beside_reads : (count k : ℕ) → Each (λ name. IsNew name (names_below read_names count)) (write_names k)
 writes_beside_reads count k = (
   each_made (λ other. other ≢ write_enable_name k) read_names 0 count (λ j low high. (other_letter 114 (read_index_name j) (write_enable_name k) refl refl, (other_letter 114 (read_value_name j) (write_enable_name k) refl refl, tt))),
-  (each_made (λ other. other ≢ write_index_name k) read_names 0 count (λ j low high. (other_letter 114 (read_index_name j) (write_index_name k) refl refl, (other_letter 114 (read_value_name j) (write_index_name k) refl refl, tt))),
-  (each_made (λ other. other ≢ write_value_name k) read_names 0 count (λ j low high. (other_letter 114 (read_index_name j) (write_value_name k) refl refl, (other_letter 114 (read_value_name j) (write_value_name k) refl refl, tt))), tt)),
+  (
+    each_made (λ other. other ≢ write_index_name k) read_names 0 count (λ j low high. (other_letter 114 (read_index_name j) (write_index_name k) refl refl, (other_letter 114 (read_value_name j) (write_index_name k) refl refl, tt))),
+    (each_made (λ other. other ≢ write_value_name k) read_names 0 count (λ j low high. (other_letter 114 (read_index_name j) (write_value_name k) refl refl, (other_letter 114 (read_value_name j) (write_value_name k) refl refl, tt))), tt),
+  ),
 )
 
 -- The names of one port beside each other.

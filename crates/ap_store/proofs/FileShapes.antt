@@ -19,24 +19,33 @@ power_among : (P : ℕ → Type 0) (cells : ℕ) (bits : List ℕ) → Each (λ 
 power_among P cells [] each e = absurd cc
 power_among P cells (b ∷ bits) each e = elim (or_cases (nat_le cells (2 ^ b) && nat_le (2 ^ b) cells) (list_any (λ b. nat_le cells (2 ^ b) && nat_le (2 ^ b) cells) bits) e) [
   | inl here ↦
-  let parts = and_parts (nat_le cells (2 ^ b)) (nat_le (2 ^ b) cells) here in
-  let below : cells ≤ 2 ^ b = leb-true cells (2 ^ b) parts.0 in
-  let above : 2 ^ b ≤ cells = leb-true (2 ^ b) cells parts.1 in
-  let same : 2 ^ b ≡ cells = omega arith in
-  subst P same each.0
+      let parts = and_parts (nat_le cells (2 ^ b)) (nat_le (2 ^ b) cells) here in
+      let below : cells ≤ 2 ^ b = leb-true cells (2 ^ b) parts.0 in
+      let above : 2 ^ b ≤ cells = leb-true (2 ^ b) cells parts.1 in
+      let same : 2 ^ b ≡ cells = omega arith in
+      subst P same each.0
   | inr later ↦ power_among P cells bits each.1 later
 ]
 
 counts : (cells : ℕ) → is_cell_count cells ≡ true → IsCount cells
 unfolding count_trailing_zeros
 counts cells e =
-    power_among IsCount cells (1 ∷ 2 ∷ 3 ∷ 4 ∷ 5 ∷ 6 ∷ [])
-    (record { counted = refl; power = refl; low = lit≤ tt; high = lit≤ tt },
-    (record { counted = refl; power = refl; low = lit≤ tt; high = lit≤ tt },
-    (record { counted = refl; power = refl; low = lit≤ tt; high = lit≤ tt },
-    (record { counted = refl; power = refl; low = lit≤ tt; high = lit≤ tt },
-    (record { counted = refl; power = refl; low = lit≤ tt; high = lit≤ tt },
-    (record { counted = refl; power = refl; low = lit≤ tt; high = lit≤ tt }, tt))))))
+    power_among IsCount cells (1 ∷ 2 ∷ 3 ∷ 4 ∷ 5 ∷ 6 ∷ []) (
+      record { counted = refl; power = refl; low = lit≤ tt; high = lit≤ tt },
+      (
+        record { counted = refl; power = refl; low = lit≤ tt; high = lit≤ tt },
+        (
+          record { counted = refl; power = refl; low = lit≤ tt; high = lit≤ tt },
+          (
+            record { counted = refl; power = refl; low = lit≤ tt; high = lit≤ tt },
+            (
+              record { counted = refl; power = refl; low = lit≤ tt; high = lit≤ tt },
+              (record { counted = refl; power = refl; low = lit≤ tt; high = lit≤ tt }, tt),
+            ),
+          ),
+        ),
+      ),
+    )
     (and_parts (is_between 2 64 cells) _ e).1
 
 -- the numbers of a file that is within the limits
@@ -77,7 +86,3 @@ shape_of file h =
       few_cells = leb-true file.cells 64 cells.1;
       some_cells = leb-true 2 file.cells cells.0;
     }
-
--- a number that passes a test which those of cells pass
-pub counts_pass : (P : ℕ → Type 0) (cells : ℕ) → Each (λ b. P (2 ^ b)) (1 ∷ 2 ∷ 3 ∷ 4 ∷ 5 ∷ 6 ∷ []) → is_cell_count cells ≡ true → P cells
-counts_pass P cells each e = power_among P cells (1 ∷ 2 ∷ 3 ∷ 4 ∷ 5 ∷ 6 ∷ []) each (and_parts (is_between 2 64 cells) _ e).1

@@ -197,13 +197,16 @@ module _ (file : File) (stages : List ℕ) (d : Draft) (kept : IsKept d) (h : Ho
           let r = h.reads port lt in
           let by : Dependence = stopped d r.index in
           let set : Behind by d kept.wired kept.connected r.value = behind by d kept.wired kept.connected r.value (read_ready port lt) in
-          let back_value : fin.back (read_value port) ≡ r.value = ap fin.back (sym (value_place port lt)) ∙ fin.returns r.value (slice_get_within d.nets r.value _ r.output) in
-          (λ n. set.among (fin.back n), record {
-            itself = ap set.among back_value ∙ set.itself;
-            closed = subst (λ l. IsClosed l (λ n. set.among (fin.back n))) (sym fin.assigns) (IsClosed-placed d.nets d.assigns d.nexts fin.place fin.back set.among kept.wired fin.returns set.closed);
-          }, each_but (λ q. set.among (fin.back q) ≡ false) (read_index port) (inputs_of file)
-              (All-from (λ q. (p : Port) × (slice_get (file_ports file) q ≡ Some p) × (p.output ≡ false)) (λ q. (q ≡ read_index port → ⊥) → set.among (fin.back q) ≡ false)
-              (λ q is ne. left_out port lt q is.0 is.1 is.2 ne) (inputs_of file) inputs_are))
+          let back_value : fin.back (read_value port) ≡ r.value = ap fin.back (sym (value_place port lt)) ∙ fin.returns r.value (slice_get_within d.nets r.value _ r.output) in (
+            λ n. set.among (fin.back n),
+            record {
+              itself = ap set.among back_value ∙ set.itself;
+              closed = subst (λ l. IsClosed l (λ n. set.among (fin.back n))) (sym fin.assigns) (IsClosed-placed d.nets d.assigns d.nexts fin.place fin.back set.among kept.wired fin.returns set.closed);
+            },
+            each_but (λ q. set.among (fin.back q) ≡ false) (read_index port) (inputs_of file)
+                (All-from (λ q. (p : Port) × (slice_get (file_ports file) q ≡ Some p) × (p.output ≡ false)) (λ q. (q ≡ read_index port → ⊥) → set.among (fin.back q) ≡ false)
+                (λ q is ne. left_out port lt q is.0 is.1 is.2 ne) (inputs_of file) inputs_are),
+          )
         where
           left_out : (port : ℕ) (lt : port < file.reads) (q : ℕ) (p : Port) → slice_get (file_ports file) q ≡ Some p → p.output ≡ false → (q ≡ read_index port → ⊥)
               → (behind (stopped d (h.reads port lt).index) d kept.wired kept.connected (h.reads port lt).value (read_ready port lt)).among (fin.back q) ≡ false

@@ -12,4 +12,3 @@ mod shape;
 mod writes;
 
 pub use file::{build_file, file_module, files_depend};
-pub use shape::is_within;

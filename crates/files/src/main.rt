@@ -11,10 +11,20 @@ use ap_desc::design::File;
 use ap_net::builder::Builder;
 use ap_net::module::Netlist;
 use ap_net::write::write;
-use ap_store::{build_file, is_within};
+use ap_store::build_file;
 use std::alloc::Global;
 use std::rt::Env;
 use std::{env, io};
+
+/// Whether a file of these numbers is within the limits of the language.
+fn is_within(file: &File) -> bool
+    ensures { IsTrue result → IsTrue (is_file_within file.now) }
+{
+    (1..=64).contains(&file.width)
+        && matches!(file.cells, 2 | 4 | 8 | 16 | 32 | 64)
+        && (1..=4).contains(&file.reads)
+        && (1..=2).contains(&file.writes)
+}
 
 /// Whether each is a stage, or 0.
 fn are_stages(stages: &[u32]) -> bool

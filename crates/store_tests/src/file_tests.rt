@@ -1,10 +1,12 @@
 //! Register files, cycle by cycle: the values were worked out by hand from the rules of writes.
 ghost use Rattle.std.specs.Prelude.{◌<◌, All, IsTrue};
+ghost use Rattle.ap_desc.specs.Designs.{is_file_within};
 
 use crate::bench::Bench;
 use ap_bits::Name;
 use ap_desc::design::File;
-use ap_store::{file_module, is_within};
+use ap_net::module::Module;
+use ap_store::file_module;
 use std::alloc::Global;
 use std::process::Abort;
 use std::test::Fail;
@@ -96,6 +98,16 @@ const RUNS: &[Run] = &[
     },
 ];
 
+/// Whether a file of these numbers is within the limits of the language.
+fn is_within(file: &File) -> bool
+    ensures { IsTrue result → IsTrue (is_file_within file.now) }
+{
+    (1..=64).contains(&file.width)
+        && matches!(file.cells, 2 | 4 | 8 | 16 | 32 | 64)
+        && (1..=4).contains(&file.reads)
+        && (1..=2).contains(&file.writes)
+}
+
 /// Whether each is a stage, or 0.
 fn are_stages(stages: &[u32]) -> bool
     ensures { IsTrue result → All (λ stage. stage < 8) stages.now }
@@ -103,8 +115,8 @@ fn are_stages(stages: &[u32]) -> bool
     stages.iter().all(|stage| *stage < 8)
 }
 
-/// Runs a file through its cycles.
-fn expect_run(rt: &impl Abort, alloc: Global, run: &Run) -> Result<(), Fail> {
+/// The module of a file of these numbers.
+fn built(rt: &impl Abort, alloc: Global, run: &Run) -> Result<Module, Fail> {
     let file = File {
         name: Name::new(alloc, b"F")?,
         width: run.width,
@@ -116,7 +128,12 @@ fn expect_run(rt: &impl Abort, alloc: Global, run: &Run) -> Result<(), Fail> {
     if !is_within(&file) || stages.len() != file.writes as usize || !are_stages(stages) {
         panic!(rt; "no file has these numbers")
     }
-    let module = file_module(alloc, &file, stages)?;
+    Ok(file_module(alloc, &file, stages)?)
+}
+
+/// Runs a file through its cycles.
+fn expect_run(rt: &impl Abort, alloc: Global, run: &Run) -> Result<(), Fail> {
+    let module = built(rt, alloc, run)?;
     assert_eq!(rt; module.name().as_str(), "rf_F");
     let mut bench = Bench::start(alloc, &module)?;
     for cycle in run.cycles {
@@ -138,5 +155,38 @@ fn reads_and_writes_cells(rt: HostRuntime) -> Result<(), Fail> {
     for run in RUNS {
         expect_run(&rt, alloc, run)?;
     }
+    Ok(())
+}
+
+/// A file with one write port and one with a second port that no line uses.
+const WITHOUT_AND_WITH: [Run; 2] = [
+    Run {
+        cells: 16,
+        width: 8,
+        reads: 2,
+        writes: 1,
+        stages: &[3],
+        cycles: &[],
+        held: &[],
+    },
+    Run {
+        cells: 16,
+        width: 8,
+        reads: 2,
+        writes: 2,
+        stages: &[3, 0],
+        cycles: &[],
+        held: &[],
+    },
+];
+
+#[test]
+fn unused_ports_cost_no_cell(rt: HostRuntime) -> Result<(), Fail> {
+    let alloc = rt.alloc();
+    let [without, with] = &WITHOUT_AND_WITH;
+    let without = built(&rt, alloc, without)?;
+    let with = built(&rt, alloc, with)?;
+    assert_eq!(rt; with.assigns().len(), without.assigns().len());
+    assert_eq!(rt; with.ports().len(), without.ports().len() + 3);
     Ok(())
 }
