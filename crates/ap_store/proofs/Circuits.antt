@@ -1,5 +1,5 @@
 -- The draft of a register file, put together.
-use Rattle.std.proofs.Common.{◌≡◌, ℕ, ◌+◌, ◌<◌, List, [], ◌∷◌, ◌++◌, length, get_or, Some, refl, sym, ap, subst, ◌∙◌, arith, append-nil}
+use Rattle.std.proofs.Common.{◌≡◌, ◌≢◌, ℕ, ◌+◌, ◌<◌, List, [], ◌∷◌, ◌++◌, length, get_or, Some, refl, sym, ap, subst, ◌∙◌, arith, append-nil}
 use Rattle.std.proofs.lemmas.Option.{get_or_from_slice_get, slice_get-get_or, slice_get_within}
 use Rattle.std.specs.Prelude.{All, slice_get}
 use Rattle.std.specs.List.{AllByRecursion as Each, flat_map, range_with_len}
@@ -11,10 +11,11 @@ use Rattle.ap_net.specs.declared.net.Role.TheVariants as role
 use Rattle.ap_net.specs.Cells.{IsNet}
 use Rattle.ap_net.specs.Wiring.{NextFits, reset_of}
 use Rattle.ap_net.specs.Modules.{ports_among}
-use Rattle.ap_net.specs.Draft.{Draft, Extends, Means, RegistersBelow}
+use Rattle.ap_net.specs.Draft.{Draft, Extends, Means, RegistersBelow, names_of}
 use Rattle.ap_net.specs.Making.{Makes}
 use Rattle.ap_net.specs.Ready.{AllReady, Dependence, Feeds, Ready, ReadyAfter, assign, output, ready, source}
-use Rattle.ap_net.proofs.Lists.{some_same}
+use Rattle.ap_net.specs.Names.{IsNew}
+use Rattle.ap_net.proofs.Lists.{All-back, All-front, some_same}
 use Rattle.ap_net.proofs.Laws.{Extends-trans, Settles-before}
 use Rattle.ap_comb.specs.Choices.{IsOfWidth, values_of}
 use Rattle.ap_store.specs.declared.writes.WritePort.{WritePort}
@@ -126,6 +127,10 @@ module _ (name : List ℕ) (file : File) (stages : List ℕ) (d0 d1 d2 d3 : Draf
     instances = third.instances ∙ second.instances ∙ first.instances ∙ ap (λ (d : Draft). d.instances) is_first;
     cells = starts_later d0 d3 file from_cells (subst (λ (d : Draft). StartsWithCells d file) (sym is_first) (starts_with_cells name file));
     registers = third.registers file.cells (second.registers file.cells (first.registers file.cells (subst (λ (d : Draft). RegistersBelow d.nets file.cells) (sym is_first) (cells_below name file file.cells))));
+    names = λ name other new there.
+        third.names name other tt
+        (second.names name other (All-back (λ n. n ≢ name) (names_below read_names file.reads) (names_below write_names file.writes) new)
+        (first.names name other (All-front (λ n. n ≢ name) (names_below read_names file.reads) (names_below write_names file.writes) new) (subst (λ (d : Draft). IsNew name (names_of d)) (sym is_first) there)));
     ready = λ by free. ready_nexts by d3 (paired cells next) (all_ready by free);
     reads = λ port lt. read_kept port (IsRead-Extends file port d1 d3 after_reads (λ read s. Settles-before d1 d3 read after_reads s) (reads port lt));
     writers = ports;

@@ -116,7 +116,7 @@ other_cell : (j k : ℕ) → j < 2 ^ 64 → k < 2 ^ 64 → (j ≡ k → ⊥) →
 other_cell j k low small ne e = let same : decimal j ≡ decimal k = cc in ne (decimal_injective j k low small same)
 
 -- a name that is new beside the cells
-beside_cells : (module_name : List ℕ) (file : File) (count : ℕ) (name : List ℕ) → codes "clk" ≢ name → codes "rst" ≢ name → ((j : ℕ) → j < count → cell_name j ≢ name) → IsNew name (names_of (with_cells module_name file count))
+pub beside_cells : (module_name : List ℕ) (file : File) (count : ℕ) (name : List ℕ) → codes "clk" ≢ name → codes "rst" ≢ name → ((j : ℕ) → j < count → cell_name j ≢ name) → IsNew name (names_of (with_cells module_name file count))
 beside_cells module_name file count name clk rst cells = (
   clk,
   (

@@ -12,5 +12,6 @@ mod WritePorts
 mod Drivers
 mod PortPlaces
 mod Circuits
+mod WireNames
 mod Whole
 mod FileNeeds

@@ -37,6 +37,7 @@ use Rattle.ap_store.proofs.Grown.{cell_there}
 use Rattle.ap_store.proofs.Depended.{Behind, behind}
 use Rattle.ap_store.proofs.Circuits.{cell_wire_at}
 use Rattle.ap_store.proofs.ReadPorts.{count_of_cells, values_of_cells}
+use Rattle.ap_store.proofs.WireNames.{wires_named}
 use Rattle.ap_store.proofs.PortPlaces.{enable_port_at, index_port_at, inputs_behind, length_ports, port_net_at, value_port_at, written_index_at, written_value_at}
 
 -- Sources that look at themselves. -----------------------------------------------------------------------------------------------
@@ -225,6 +226,7 @@ module _ (file : File) (stages : List ℕ) (d : Draft) (kept : IsKept d) (h : Ho
         ports = ports;
         instances = fin.instances ∙ ap (map (instance_placed fin.place)) h.instances;
         cells = has_cells;
+        wires = wires_named file stages d h m rules fin;
         reads = reads;
         writes = writes;
         ordered = ready_are_ordered isolated d m kept h.instances (h.ready isolated (λ n. refl)) fin;

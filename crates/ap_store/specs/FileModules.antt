@@ -1,8 +1,9 @@
 -- What a register file's module is: a list of cells that is read at an index and written by the writes of a cycle.
-use Rattle.std.specs.Prelude.{◌≡◌, ℕ, ◌<◌, ◌+◌, ◌==◌, if◌then◌else◌, List, [], ◌∷◌, length, map, slice_get, slice_index, Some, Bool}
-use Rattle.std.specs.List.{flat_map}
+use Rattle.std.specs.Prelude.{◌≡◌, ℕ, ◌<◌, ◌+◌, ◌==◌, if◌then◌else◌, List, [], ◌∷◌, length, map, slice_get, slice_index, Some, Bool, IsTrue}
+use Rattle.std.specs.List.{AllByRecursion as Each, flat_map}
 use Rattle.ap_desc.specs.declared.design.File.{File}
 use Rattle.ap_net.specs.declared.net.ModuleNet.{ModuleNet}
+use Rattle.ap_net.specs.declared.net.Net.{Net}
 use Rattle.ap_net.specs.declared.net.Next.{Next}
 use Rattle.ap_net.specs.Wiring.{IsDriven, IsOrdered, Settles}
 use Rattle.ap_net.specs.Modules.{ModuleText, IsModule, nets_of, ports_among}
@@ -10,6 +11,7 @@ use Rattle.ap_net.specs.Draft.{Draft}
 use Rattle.ap_net.specs.Finished.{IsFinished}
 use Rattle.ap_net.specs.Depends.{DependsOnNone}
 use Rattle.ap_net.specs.Responding.{DependsAs}
+use Rattle.ap_unit.specs.Named.{is_lettered}
 use Rattle.ap_unit.specs.Stepping.{register_net}
 use Rattle.ap_store.specs.Cells.{CellWrite, after_writes, write_order}
 use Rattle.ap_store.specs.FilePorts.{cell_name, file_ports, inputs_but, read_index, read_value, write_enable, write_index, write_value}
@@ -41,13 +43,15 @@ write_through file read port = write_of (read (write_enable file port)) (read (w
 abbrev pub cycle_writes : File → List ℕ → (ℕ → ℕ) → List CellWrite
 cycle_writes file stages read = flat_map (write_through file read) (write_order stages)
 
--- The module is a register file: it has the ports due and no instances, and its registers are the cells. In every solution a read port
+-- The module is a register file: it has the ports due and no instances, its registers are the cells, and its wires are named n (byte
+-- 110) and digits. In every solution a read port
 -- shows the cell at its index, as it is before the edge, and after the edge the cells are the list with the cycle's writes. No net
 -- depends on itself, and what a read port shows depends on no input but its index.
 pub record IsFile (m : ModuleText) (file : File) (stages : List ℕ) : Type 0 where
   pub ports : m.ports ≡ file_ports file
   pub instances : m.instances ≡ []
   pub cells : HasCells m file
+  pub wires : Each (λ (x : Net). IsTrue (is_lettered 110 x.name)) m.wires
   pub reads : (port : ℕ) (read : ℕ → ℕ) → port < file.reads → Settles (nets_of m) m.assigns read → read (read_value port) ≡ slice_index (held m read) (read (read_index port))
   pub writes : (read : ℕ → ℕ) → Settles (nets_of m) m.assigns read → taken m read ≡ after_writes (held m read) (cycle_writes file stages read)
   pub ordered : IsOrdered m.assigns
