@@ -1,3 +1,4 @@
+mod CellLaws
 mod Ranges
 mod FileShapes
 mod Orders

@@ -2,6 +2,7 @@
 ghost use Rattle.std.specs.Prelude.{◌≡◌, ◌<◌, All, IfOk, IsTrue, OnOk, length};
 ghost use Rattle.ap_desc.specs.Designs.{is_file_within};
 ghost use Rattle.ap_unit.specs.Built.{IsBlank};
+ghost use Rattle.ap_store.specs.Cells.{CellsGoAlone};
 ghost use Rattle.ap_store.specs.FilePorts.{file_module_name};
 ghost use Rattle.ap_store.specs.FileModules.{FilesDepend, IsFile, IsFileDraft};
 
@@ -58,4 +59,9 @@ pub fn file_module(alloc: Global, file: &File, stages: &[u32]) -> Result<Module,
 /// What a read port of a file shows depends on the index of this port alone.
 pub fn files_depend()
     ensures { FilesDepend }
+{}
+
+/// Each cell goes by itself: after writes, one after another, it has the value of the last one to it, or what it had.
+pub fn cells_go_alone()
+    ensures { CellsGoAlone }
 {}

@@ -11,4 +11,4 @@ mod reads;
 mod shape;
 mod writes;
 
-pub use file::{build_file, file_module, files_depend};
+pub use file::{build_file, cells_go_alone, file_module, files_depend};

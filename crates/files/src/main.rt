@@ -3,6 +3,7 @@
 #![tactic(auto)]
 
 ghost use Rattle.std.specs.Prelude.{◌≡◌, ◌<◌, All, IfOk, IsTrue, length};
+ghost use Rattle.ap_desc.specs.Designs as designs;
 ghost use Rattle.ap_desc.specs.Designs.{is_file_within};
 ghost use Rattle.files.specs.Texts.{IsFileText};
 
@@ -16,14 +17,34 @@ use std::alloc::Global;
 use std::rt::Env;
 use std::{env, io};
 
+/// Whether the number lies between these two.
+fn is_between(low: u32, high: u32, number: u32) -> bool
+    ensures { result ≡ designs.is_between low high number }
+{
+    (low..=high).contains(&number)
+}
+
+/// Whether a file may have so many cells.
+fn is_cell_count(cells: u32) -> bool
+    ensures { IsTrue result → IsTrue (designs.is_cell_count cells) }
+{
+    matches!(cells, 2 | 4 | 8 | 16 | 32 | 64)
+}
+
 /// Whether a file of these numbers is within the limits of the language.
 fn is_within(file: &File) -> bool
     ensures { IsTrue result → IsTrue (is_file_within file.now) }
 {
-    (1..=64).contains(&file.width)
-        && matches!(file.cells, 2 | 4 | 8 | 16 | 32 | 64)
-        && (1..=4).contains(&file.reads)
-        && (1..=2).contains(&file.writes)
+    if !is_between(1, 64, file.width) {
+        return false;
+    }
+    if !is_cell_count(file.cells) {
+        return false;
+    }
+    if !is_between(1, 4, file.reads) {
+        return false;
+    }
+    is_between(1, 2, file.writes)
 }
 
 /// Whether each is a stage, or 0.

@@ -23,10 +23,7 @@ fn low_bits(value: u64, width: u32) -> u64 {
 impl Bench {
     /// The module after the reset edge.
     pub fn start(alloc: Global, module: &Module) -> Result<Bench, NoMemory> {
-        let first = module
-            .ports()
-            .len()
-            .saturating_add(module.wires().len());
+        let first = module.ports().len().saturating_add(module.wires().len());
         let nets = first.saturating_add(module.regs().len());
         let mut bench = Bench {
             alloc,

@@ -1,5 +1,6 @@
 //! Register files, cycle by cycle: the values were worked out by hand from the rules of writes.
-ghost use Rattle.std.specs.Prelude.{◌<◌, All, IsTrue};
+ghost use Rattle.std.specs.Prelude.{◌≡◌, ◌<◌, All, IsTrue};
+ghost use Rattle.ap_desc.specs.Designs as designs;
 ghost use Rattle.ap_desc.specs.Designs.{is_file_within};
 
 use crate::bench::Bench;
@@ -39,8 +40,14 @@ const RUNS: &[Run] = &[
         writes: 2,
         stages: &[2, 3],
         cycles: &[
-            Cycle { inputs: &[1, 1, 1, 9, 1, 1, 7], shown: &[0] },
-            Cycle { inputs: &[1, 0, 0, 0, 0, 0, 0], shown: &[9] },
+            Cycle {
+                inputs: &[1, 1, 1, 9, 1, 1, 7],
+                shown: &[0],
+            },
+            Cycle {
+                inputs: &[1, 0, 0, 0, 0, 0, 0],
+                shown: &[9],
+            },
         ],
         held: &[0, 9],
     },
@@ -51,7 +58,10 @@ const RUNS: &[Run] = &[
         reads: 1,
         writes: 2,
         stages: &[3, 2],
-        cycles: &[Cycle { inputs: &[0, 1, 1, 9, 1, 1, 7], shown: &[0] }],
+        cycles: &[Cycle {
+            inputs: &[0, 1, 1, 9, 1, 1, 7],
+            shown: &[0],
+        }],
         held: &[0, 7],
     },
     // Both in one stage: the higher port number stands. Then they write two cells, of which one is written once more.
@@ -62,10 +72,22 @@ const RUNS: &[Run] = &[
         writes: 2,
         stages: &[5, 5],
         cycles: &[
-            Cycle { inputs: &[0, 3, 1, 3, 6, 1, 3, 11], shown: &[0, 0] },
-            Cycle { inputs: &[3, 0, 1, 0, 5, 1, 2, 15], shown: &[11, 0] },
-            Cycle { inputs: &[0, 2, 0, 0, 1, 1, 0, 2], shown: &[5, 15] },
-            Cycle { inputs: &[0, 1, 0, 0, 0, 0, 0, 0], shown: &[2, 0] },
+            Cycle {
+                inputs: &[0, 3, 1, 3, 6, 1, 3, 11],
+                shown: &[0, 0],
+            },
+            Cycle {
+                inputs: &[3, 0, 1, 0, 5, 1, 2, 15],
+                shown: &[11, 0],
+            },
+            Cycle {
+                inputs: &[0, 2, 0, 0, 1, 1, 0, 2],
+                shown: &[5, 15],
+            },
+            Cycle {
+                inputs: &[0, 1, 0, 0, 0, 0, 0, 0],
+                shown: &[2, 0],
+            },
         ],
         held: &[2, 0, 15, 11],
     },
@@ -77,8 +99,14 @@ const RUNS: &[Run] = &[
         writes: 2,
         stages: &[1, 0],
         cycles: &[
-            Cycle { inputs: &[0, 1, 0, u64::MAX, 1, 1, 7], shown: &[0] },
-            Cycle { inputs: &[1, 0, 0, 0, 1, 0, 7], shown: &[0] },
+            Cycle {
+                inputs: &[0, 1, 0, u64::MAX, 1, 1, 7],
+                shown: &[0],
+            },
+            Cycle {
+                inputs: &[1, 0, 0, 0, 1, 0, 7],
+                shown: &[0],
+            },
         ],
         held: &[u64::MAX, 0],
     },
@@ -90,22 +118,51 @@ const RUNS: &[Run] = &[
         writes: 1,
         stages: &[7],
         cycles: &[
-            Cycle { inputs: &[5, 4, 1, 1, 5, 1], shown: &[0, 0, 0] },
-            Cycle { inputs: &[5, 4, 1, 1, 4, 1], shown: &[1, 0, 0] },
-            Cycle { inputs: &[5, 4, 1, 1, 5, 0], shown: &[1, 1, 0] },
+            Cycle {
+                inputs: &[5, 4, 1, 1, 5, 1],
+                shown: &[0, 0, 0],
+            },
+            Cycle {
+                inputs: &[5, 4, 1, 1, 4, 1],
+                shown: &[1, 0, 0],
+            },
+            Cycle {
+                inputs: &[5, 4, 1, 1, 5, 0],
+                shown: &[1, 1, 0],
+            },
         ],
         held: &[0, 0, 0, 0, 1, 0, 0, 0],
     },
 ];
 
+/// Whether the number lies between these two.
+fn is_between(low: u32, high: u32, number: u32) -> bool
+    ensures { result ≡ designs.is_between low high number }
+{
+    (low..=high).contains(&number)
+}
+
+/// Whether a file may have so many cells.
+fn is_cell_count(cells: u32) -> bool
+    ensures { IsTrue result → IsTrue (designs.is_cell_count cells) }
+{
+    matches!(cells, 2 | 4 | 8 | 16 | 32 | 64)
+}
+
 /// Whether a file of these numbers is within the limits of the language.
 fn is_within(file: &File) -> bool
     ensures { IsTrue result → IsTrue (is_file_within file.now) }
 {
-    (1..=64).contains(&file.width)
-        && matches!(file.cells, 2 | 4 | 8 | 16 | 32 | 64)
-        && (1..=4).contains(&file.reads)
-        && (1..=2).contains(&file.writes)
+    if !is_between(1, 64, file.width) {
+        return false;
+    }
+    if !is_cell_count(file.cells) {
+        return false;
+    }
+    if !is_between(1, 4, file.reads) {
+        return false;
+    }
+    is_between(1, 2, file.writes)
 }
 
 /// Whether each is a stage, or 0.

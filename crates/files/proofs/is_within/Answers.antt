@@ -1,0 +1,4 @@
+use Rattle.files.proofs.is_within.Goals as goal
+
+pub returns : goal.returns
+returns c = ?
