@@ -106,7 +106,10 @@ fn text_for(alloc: Global, numbers: &[u32]) -> Result<Option<Vec<u8>>, NoMemory>
         reads: *reads,
         writes,
     };
-    if !is_within(&file) || !are_stages(stages) {
+    if !is_within(&file) {
+        return Ok(None);
+    }
+    if !are_stages(stages) {
         return Ok(None);
     }
     let text = file_text(alloc, &file, stages)?;
