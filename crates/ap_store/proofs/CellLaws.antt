@@ -8,13 +8,13 @@ use Rattle.ap_store.specs.Cells.{CellWrite, CellsGoAlone, after_write, cell_afte
 one_write : (cells : List ℕ) (write : CellWrite) (index : ℕ) → index < length cells → get_or (after_write cells write) index 0 ≡ cell_after index (get_or cells index 0) write
 one_write cells write index lt = elim (cases_eq write.at index) [
   | inl same ↦
-  let test : (write.at == index) ≡ true = eq-eqb write.at index same in
-  let within : write.at < length cells = omega arith in
-  ap (λ k. get_or (set cells write.at write.value) k 0) (sym same) ∙ get_or-set_same cells write.at write.value 0 within ∙ sym (ap (λ t. if t then write.value else get_or cells index 0) test)
+      let test : (write.at == index) ≡ true = eq-eqb write.at index same in
+      let within : write.at < length cells = omega arith in
+      ap (λ k. get_or (set cells write.at write.value) k 0) (sym same) ∙ get_or-set_same cells write.at write.value 0 within ∙ sym (ap (λ t. if t then write.value else get_or cells index 0) test)
   | inr other ↦
-  let test : (write.at == index) ≡ false = ne_eqb write.at index other in
-  let apart : index ≢ write.at = λ e. other (sym e) in
-  get_or-set_other cells write.at index write.value 0 apart ∙ sym (ap (λ t. if t then write.value else get_or cells index 0) test)
+      let test : (write.at == index) ≡ false = ne_eqb write.at index other in
+      let apart : index ≢ write.at = λ e. other (sym e) in
+      get_or-set_other cells write.at index write.value 0 apart ∙ sym (ap (λ t. if t then write.value else get_or cells index 0) test)
 ]
 
 pub cells_go_alone : CellsGoAlone

@@ -1,5 +1,5 @@
 -- What the limits of a file say of its numbers.
-use Rattle.std.proofs.Common.{◌≡◌, ℕ, ◌^◌, ◌≤◌, lit≤, true, List, [], ◌∷◌, inl, inr, refl, sym, subst, arith, leb-true}
+use Rattle.std.proofs.Common.{◌≡◌, ℕ, ◌^◌, ◌≤◌, lit≤, true, List, [], ◌∷◌, inl, inr, refl, subst, arith, leb-true}
 use Rattle.std.specs.Prelude.{◌&&◌, nat_le, IsTrue}
 use Rattle.std.specs.List.{AllByRecursion as Each, list_any}
 use Rattle.std.specs.Int.Count.{count_trailing_zeros}

@@ -1,5 +1,5 @@
 -- How a register file's draft grows, by ports and by wires.
-use Rattle.std.proofs.Common.{◌≡◌, ◌≢◌, ℕ, zero, suc, ◌+◌, ◌<◌, ◌≤◌, List, [], ◌∷◌, ◌++◌, length, map, Some, refl, sym, ap, subst, ◌∙◌, arith, append_assoc, length-append, ⊎_elim, false}
+use Rattle.std.proofs.Common.{◌≡◌, ◌≢◌, ℕ, zero, suc, ◌+◌, ◌<◌, List, [], ◌∷◌, ◌++◌, length, map, Some, refl, sym, ap, subst, ◌∙◌, arith, append_assoc, length-append, ⊎_elim, false}
 use Rattle.std.specs.Prelude.{slice_get}
 use Rattle.std.specs.List.{AllByRecursion as Each, range_with_len}
 use Rattle.std.proofs.lemmas.Bool.{cases_lt}
@@ -10,12 +10,11 @@ use Rattle.ap_desc.specs.declared.design.File.{File}
 use Rattle.ap_net.specs.declared.cell.Wire.{Wire}
 use Rattle.ap_net.specs.declared.net.Role.TheVariants as role
 use Rattle.ap_net.specs.declared.net.ModuleNet.{ModuleNet}
-use Rattle.ap_net.specs.declared.net.Port.{Port}
 use Rattle.ap_net.specs.Names.{IsNew, IsNotNumbered}
-use Rattle.ap_net.specs.Wiring.{IsSource, names_taken, reset_of}
+use Rattle.ap_net.specs.Wiring.{names_taken, reset_of}
 use Rattle.ap_net.specs.Modules.{port_by, ports_among}
-use Rattle.ap_net.specs.Draft.{Adds, Begins, CanFresh, Draft, Extends, KeepsFresh, RegistersBelow, names_of, next_wire, with_net}
-use Rattle.ap_net.specs.Ready.{AllReady, AreReady, Dependence, Ready}
+use Rattle.ap_net.specs.Draft.{Adds, Draft, Extends, KeepsFresh, RegistersBelow, names_of, next_wire, with_net}
+use Rattle.ap_net.specs.Ready.{AllReady, Dependence}
 use Rattle.ap_net.specs.Making.{Closes, Makes}
 use Rattle.ap_net.proofs.Lists.{All-front, All-back, get_end}
 use Rattle.ap_net.proofs.Drafts.{Adds-declare, one_more_net}

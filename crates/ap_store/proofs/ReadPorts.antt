@@ -11,13 +11,12 @@ use Rattle.ap_net.specs.declared.cell.Wire.{Wire}
 use Rattle.ap_net.specs.declared.net.Role.TheVariants as role
 use Rattle.ap_net.specs.declared.net.ModuleNet.{ModuleNet}
 use Rattle.ap_net.specs.declared.net.Instance.{Instance}
-use Rattle.ap_net.specs.Cells.{IsNet, widths_of}
 use Rattle.ap_net.specs.Names.{IsNew}
-use Rattle.ap_net.specs.Wiring.{names_taken, taken_names}
+use Rattle.ap_net.specs.Wiring.{taken_names}
 use Rattle.ap_net.specs.Draft.{Draft, Extends, Means, SettlesDraft, names_of, next_wire, with_net}
 use Rattle.ap_net.specs.Ready.{AreReady, Dependence, Ready, ReadyAfter, numbers}
 use Rattle.ap_net.specs.Late.{Reads}
-use Rattle.ap_net.specs.Pending.{Among, IsFrom, Yields}
+use Rattle.ap_net.specs.Pending.{Among, Yields}
 use Rattle.ap_net.specs.Making.{Makes}
 use Rattle.ap_net.proofs.Lists.{All-at, All-back, All-unmap, get_end, map-map}
 use Rattle.ap_net.proofs.Laws.{Extends-trans, ReadyAfter-Extends, stays}

@@ -1,13 +1,12 @@
 -- The module that is made of a register file's draft is a register file.
-use Rattle.std.proofs.Common.{◌≡◌, ◌≢◌, ℕ, zero, suc, ◌+◌, ◌-◌, ◌*◌, ◌<◌, ◌≤◌, Bool, true, false, List, [], ◌∷◌, ◌++◌, length, map, Option, Some, None, refl, sym, ap, subst, ◌∙◌, arith, ⊎_elim}
+use Rattle.std.proofs.Common.{◌≡◌, ◌≢◌, ℕ, zero, suc, ◌+◌, ◌-◌, ◌*◌, ◌<◌, ◌≤◌, Bool, true, false, List, [], ◌∷◌, length, map, Option, Some, None, refl, sym, ap, subst, ◌∙◌, arith}
 use Rattle.std.specs.Prelude.{◌==◌, if◌then◌else◌, filter, not, option_map, slice_get, slice_index}
-use Rattle.std.specs.List.{AllByRecursion as Each, flat_map, range_with_len}
+use Rattle.std.specs.List.{AllByRecursion as Each, range_with_len}
 use Rattle.std.specs.Option.{option_map_or}
-use Rattle.std.proofs.lemmas.Bool.{cases_lt, eqb-true, eqb-false, eq-eqb, ne_eqb}
+use Rattle.std.proofs.lemmas.Bool.{eqb-false, eq-eqb, ne_eqb}
 use Rattle.std.proofs.lemmas.List.{length-map}
 use Rattle.std.proofs.lemmas.Option.{slice_get-map, slice_get_within}
 use Rattle.ap_desc.specs.declared.design.File.{File}
-use Rattle.ap_desc.specs.Designs.{index_bits}
 use Rattle.ap_net.specs.declared.cell.Wire.{Wire}
 use Rattle.ap_net.specs.declared.net.Role.{Role}
 use Rattle.ap_net.specs.declared.net.Role.TheVariants as role
@@ -17,20 +16,19 @@ use Rattle.ap_net.specs.declared.net.Port.{Port}
 use Rattle.ap_net.specs.Wiring.{IsDriven, IsSource, Settles, Unclocked}
 use Rattle.ap_net.specs.Modules.{ModuleText, IsModule, instance_placed, next_placed, nets_of, port_net, ports_among}
 use Rattle.ap_net.specs.Depends.{DependsOnNone, IsClosed}
-use Rattle.ap_net.specs.Draft.{Draft, IsKept, SettlesDraft}
+use Rattle.ap_net.specs.Draft.{Draft, IsKept}
 use Rattle.ap_net.specs.Finished.{IsFinished}
 use Rattle.ap_net.specs.Ready.{AreReady, Dependence, Ready}
 use Rattle.ap_net.proofs.Lists.{All-at, All-from, All-join, map-map, some_same}
 use Rattle.ap_net.proofs.Renumbered.{some_within}
 use Rattle.ap_net.proofs.Laws.{Extends-refl, IsClosed-placed, Ready-source, ready_are_driven, ready_are_ordered}
-use Rattle.ap_unit.specs.Pieces.{input_net}
 use Rattle.ap_unit.proofs.Placed.{isolated, place_is}
 use Rattle.ap_store.specs.declared.writes.WritePort.{WritePort}
-use Rattle.ap_store.specs.Cells.{CellWrite, after_writes, ports_in, stages_from_last, write_order}
-use Rattle.ap_store.specs.FilePorts.{file_ports, inputs_but, inputs_of, read_index, read_index_name, read_value, write_enable, write_index, write_value}
+use Rattle.ap_store.specs.Cells.{after_writes, write_order}
+use Rattle.ap_store.specs.FilePorts.{file_ports, inputs_but, inputs_of, read_index, read_value, write_enable, write_index, write_value}
 use Rattle.ap_store.specs.FileModules.{HasCells, IsFile, cell_net, cycle_writes, held, taken, write_of, write_through}
 use Rattle.ap_store.specs.Writers.{numbered_write, port_write, ports_write}
-use Rattle.ap_store.specs.Building.{HoldsFile, IsRead, IsWrite, cell_values, cell_wire, cell_wires}
+use Rattle.ap_store.specs.Building.{HoldsFile, IsWrite, cell_values, cell_wire, cell_wires}
 use Rattle.ap_store.proofs.Ranges.{each_in_range, flat_map_same, map_at}
 use Rattle.ap_store.proofs.Orders.{ordered_below}
 use Rattle.ap_store.proofs.Grown.{cell_there}

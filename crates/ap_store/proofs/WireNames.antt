@@ -1,5 +1,5 @@
 -- The wires of a register file's module are named n and digits.
-use Rattle.std.proofs.Common.{◌≡◌, ◌≢◌, ℕ, zero, suc, ◌+◌, ◌<◌, ◌≤◌, Bool, true, false, List, [], ◌∷◌, ◌++◌, length, map, Some, refl, sym, ap, subst, ◌∙◌, arith}
+use Rattle.std.proofs.Common.{◌≡◌, ◌≢◌, ℕ, zero, suc, ◌+◌, ◌<◌, Bool, true, false, List, ◌++◌, length, map, Some, refl, sym, ap, subst, ◌∙◌, arith}
 use Rattle.std.specs.Prelude.{IsTrue, codes, option_map, slice_get}
 use Rattle.std.specs.List.{AllByRecursion as Each, flat_map, range_with_len}
 use Rattle.std.proofs.lemmas.List.{length-map, map-append}
@@ -9,11 +9,11 @@ use Rattle.ap_net.specs.declared.net.Role.TheVariants as role
 use Rattle.ap_net.specs.declared.net.ModuleNet.{ModuleNet}
 use Rattle.ap_net.specs.declared.net.Net.{Net}
 use Rattle.ap_net.specs.declared.net.Port.{Port}
-use Rattle.ap_net.specs.Names.{IsNew, IsNotNumbered}
+use Rattle.ap_net.specs.Names.{IsNew}
 use Rattle.ap_net.specs.Modules.{ModuleText, IsModule, nets_of, port_net, reg_net, wire_net}
 use Rattle.ap_net.specs.Draft.{Draft, names_of}
 use Rattle.ap_net.specs.Finished.{IsFinished}
-use Rattle.ap_net.proofs.Lists.{All-at, All-map, Each-at, get_left, get_right}
+use Rattle.ap_net.proofs.Lists.{All-map, Each-at, get_left, get_right}
 use Rattle.ap_unit.specs.Named.{is_lettered}
 use Rattle.ap_unit.proofs.Placed.{not_there, same_place}
 use Rattle.ap_unit.proofs.PlainNames.{IsNotNumbered-other, not_new}

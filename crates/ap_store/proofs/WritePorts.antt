@@ -9,7 +9,6 @@ use Rattle.ap_net.specs.declared.cell.Wire.{Wire}
 use Rattle.ap_net.specs.declared.net.Role.TheVariants as role
 use Rattle.ap_net.specs.declared.net.ModuleNet.{ModuleNet}
 use Rattle.ap_net.specs.declared.net.Port.{Port}
-use Rattle.ap_net.specs.Cells.{IsNet}
 use Rattle.ap_net.specs.Modules.{ports_among}
 use Rattle.ap_net.specs.Draft.{Draft, Extends, next_wire, with_net}
 use Rattle.ap_net.proofs.Lists.{get_end, get_left}

@@ -9,7 +9,7 @@ use Rattle.ap_net.specs.declared.net.Next.{Next}
 use Rattle.ap_net.specs.declared.net.Role.TheVariants as role
 use Rattle.ap_net.specs.Names.{IsNew, IsNotNumbered}
 use Rattle.ap_net.specs.Modules.{ports_among}
-use Rattle.ap_net.specs.Draft.{Draft, Adds, Begins, CanFresh, RegistersBelow, SettlesDraft, names_of, next_wire, with_net}
+use Rattle.ap_net.specs.Draft.{Draft, Adds, Begins, CanFresh, RegistersBelow, SettlesDraft, names_of, with_net}
 use Rattle.ap_net.specs.Ready.{AllReady, Dependence, ReadyAfter}
 use Rattle.ap_unit.specs.Pieces.{input_net, output_net}
 use Rattle.ap_unit.specs.Stepping.{wire}

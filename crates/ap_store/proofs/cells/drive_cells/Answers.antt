@@ -1,10 +1,9 @@
-use Rattle.std.proofs.Common.{[], ◌∷◌, ◌++◌, ◌≡◌, ◌<◌, ◌∙◌, List, ap, arith, get_or, length, subst, sym}
+use Rattle.std.proofs.Common.{◌≡◌, ◌∙◌, List, ap, arith, get_or, length, subst, sym}
 use Rattle.ap_net.specs.declared.cell.Wire.{Wire}
 use Rattle.ap_net.specs.declared.net.ModuleNet.{ModuleNet}
 use Rattle.ap_net.specs.declared.net.Next.{Next}
 use Rattle.ap_net.specs.Draft.{Draft, with_next}
 use Rattle.ap_net.specs.Wiring.{NextFits, Unclocked}
-use Rattle.ap_store.specs.Writers.{paired}
 use Rattle.ap_store.proofs.Drivers.{none, pair_at, paired_all, paired_more, unclocked_at}
 use Rattle.ap_store.proofs.cells.drive_cells.Goals as goal
 

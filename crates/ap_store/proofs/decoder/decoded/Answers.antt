@@ -1,4 +1,4 @@
-use Rattle.std.proofs.Common.{[], ◌≡◌, ◌-◌, ◌<◌, ◌^◌, ◌∙◌, ap, arith, refl, sym}
+use Rattle.std.proofs.Common.{[], ◌≡◌, ◌-◌, ◌<◌, ◌^◌, ◌∙◌, ap, arith, refl}
 use Rattle.ap_store.specs.Writers.{split_lines}
 use Rattle.std.proofs.lemmas.List.Elements.{All-nil, All-push, All-weaker}
 use Rattle.ap_net.proofs.Laws.{IsNet-Makes, Makes-refl, Makes-trans}

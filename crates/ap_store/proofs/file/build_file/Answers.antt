@@ -1,14 +1,10 @@
-use Rattle.std.proofs.Common.{[], ◌≡◌, ◌<◌, ◌∙◌, ap, arith, length, subst, sym}
-use Rattle.std.specs.Prelude.{All}
-use Rattle.std.specs.List.{AllByRecursion as Each, range_with_len}
-use Rattle.ap_net.specs.declared.cell.Wire.{Wire}
-use Rattle.ap_net.specs.Draft.{Draft, Extends}
+use Rattle.std.proofs.Common.{◌≡◌, ◌∙◌, ap, length, subst, sym}
+use Rattle.std.specs.List.{range_with_len}
+use Rattle.ap_net.specs.Draft.{Draft}
 use Rattle.ap_net.specs.Ready.{numbers}
-use Rattle.ap_net.specs.Wiring.{NextFits}
 use Rattle.ap_net.proofs.Laws.{Extends-trans}
-use Rattle.ap_comb.specs.Choices.{IsOfWidth}
-use Rattle.ap_store.specs.Writers.{IsWriter, paired}
-use Rattle.ap_store.specs.Building.{HoldsFile, StartsWithCells, names_below, read_names, with_cells, write_names}
+use Rattle.ap_store.specs.Writers.{paired}
+use Rattle.ap_store.specs.Building.{HoldsFile, StartsWithCells, names_below, read_names, write_names}
 use Rattle.ap_store.proofs.Circuits.{cells_fit, cells_wide, circuit_holds, named_again, starts_with_cells}
 use Rattle.ap_store.proofs.FileNames.{write_not_numbered, writes_beside_cells, writes_beside_reads}
 use Rattle.ap_store.proofs.FileShapes.{shape_of}

@@ -1,4 +1,4 @@
-use Rattle.std.proofs.Common.{[], ◌∷◌, ◌++◌, ◌≡◌, ℕ, ◌<◌, ◌^◌, ◌∙◌, List, Some, ap, append_assoc, false, true, arith, length, refl, subst, sym}
+use Rattle.std.proofs.Common.{[], ◌∷◌, ◌++◌, ◌≡◌, ℕ, ◌<◌, ◌^◌, ◌∙◌, List, Some, ap, append_assoc, false, true, arith, length, refl, subst}
 use Rattle.ap_desc.specs.Designs.{index_bits}
 use Rattle.ap_net.specs.declared.net.Port.{Port}
 use Rattle.ap_net.specs.declared.cell.Wire.{Wire}

@@ -1,5 +1,4 @@
-use Rattle.std.proofs.Common.{[], ◌∷◌, ◌≡◌, ◌+◌, ◌<◌, ◌∙◌, ap, arith, length, length-append, lit≤, refl, sym}
-use Rattle.ap_net.specs.declared.cell.Wire.{Wire}
+use Rattle.std.proofs.Common.{[], ◌∷◌, ◌≡◌, ◌∙◌, ap, arith, lit≤, refl}
 use Rattle.ap_net.specs.declared.net.Role.TheVariants as role
 use Rattle.ap_net.specs.Draft.{Draft, with_net}
 use Rattle.ap_desc.specs.Designs.{index_bits}

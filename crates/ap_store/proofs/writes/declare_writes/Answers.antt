@@ -1,9 +1,9 @@
-use Rattle.std.proofs.Common.{[], ◌∷◌, ◌++◌, ◌≡◌, ◌+◌, ◌<◌, ◌∙◌, ap, append-nil, append_assoc, arith, length, length-append, refl, subst, sym}
+use Rattle.std.proofs.Common.{[], ◌∷◌, ◌++◌, ◌≡◌, ◌+◌, ◌<◌, ◌∙◌, ap, append-nil, append_assoc, arith, length, length-append, subst, sym}
 use Rattle.std.specs.List.{flat_map, range_with_len}
 use Rattle.ap_net.specs.Draft.{Draft}
 use Rattle.ap_net.specs.Modules.{ports_among}
 use Rattle.ap_store.specs.FilePorts.{write_ports}
-use Rattle.ap_store.specs.Building.{AreWrites, Grows, IsWrite, names_below, with_write, write_names, write_wires}
+use Rattle.ap_store.specs.Building.{AreWrites, Grows, IsWrite, names_below, write_names, write_wires}
 use Rattle.ap_store.proofs.FileNames.{write_not_numbered, writes_beside_writes}
 use Rattle.ap_store.proofs.FileShapes.{shape_of}
 use Rattle.ap_store.proofs.Grown.{Grows-refl, Grows-trans, new_after}
