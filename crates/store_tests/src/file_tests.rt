@@ -202,15 +202,20 @@ fn built(rt: &impl Abort, alloc: Global, run: &Run) -> Result<Module, Fail> {
     Ok(module)
 }
 
+/// Whether a module has this name.
+fn is_named(module: &Module, name: &str) -> bool {
+    module.name().as_str() == name
+}
+
 /// Runs a file through its cycles.
 fn expect_run(rt: &impl Abort, alloc: Global, run: &Run) -> Result<(), Fail> {
     let module = built(rt, alloc, run)?;
-    assert_eq!(rt; module.name().as_str(), "rf_F");
+    assert!(rt; is_named(&module, "rf_F"));
     let mut bench = Bench::start(alloc, &module)?;
     for cycle in run.cycles {
         bench.settle(&module, cycle.inputs);
         for (port, value) in cycle.shown.iter().enumerate() {
-            assert_eq!(rt; bench.get(2 * port + 1), *value);
+            assert_eq!(rt; bench.get(port.saturating_mul(2).saturating_add(1)), *value);
         }
         bench.edge(&module)?;
     }
@@ -258,6 +263,6 @@ fn unused_ports_cost_no_cell(rt: HostRuntime) -> Result<(), Fail> {
     let without = built(&rt, alloc, without)?;
     let with = built(&rt, alloc, with)?;
     assert_eq!(rt; with.assigns().len(), without.assigns().len());
-    assert_eq!(rt; with.ports().len(), without.ports().len() + 3);
+    assert_eq!(rt; with.ports().len(), without.ports().len().saturating_add(3));
     Ok(())
 }
