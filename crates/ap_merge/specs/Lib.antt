@@ -1,0 +1,3 @@
+pub mod Selects
+pub mod Choices
+pub mod Gathered

@@ -1,0 +1,4 @@
+pub mod Going
+pub mod Limits
+pub mod Orders
+pub mod UseFacts

@@ -1,0 +1,3 @@
+pub mod HomeLemmas
+pub mod Ranked
+pub mod Widest

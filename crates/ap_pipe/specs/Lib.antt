@@ -1,0 +1,4 @@
+pub mod Live
+pub mod Widths
+pub mod Slots
+pub mod Ranks
