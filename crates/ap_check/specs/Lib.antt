@@ -1,0 +1,5 @@
+pub mod Known
+pub mod Names
+pub mod Numbers
+pub mod Phases
+pub mod Resolved
