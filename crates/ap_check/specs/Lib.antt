@@ -1,5 +1,7 @@
+pub mod Closing
 pub mod Known
 pub mod Names
+pub mod Noting
 pub mod Numbers
 pub mod Phases
 pub mod Resolved

@@ -1,5 +1,5 @@
 //! What the statements so far declare, and what a statement does there.
-ghost use Rattle.std.specs.Prelude.{◌≡◌};
+ghost use Rattle.std.specs.Prelude.{◌≡◌, IfErr, IfOk, List, None, OnOk, Some, []};
 ghost use Rattle.ap_check.specs.declared.environment.Stop.TheVariants as stop;
 
 use crate::declared::Declared;
@@ -7,7 +7,7 @@ use crate::names::Names;
 use ap_bits::{Items, NoMemory};
 use ap_desc::design::{Design, Field, Instr};
 use ap_desc::{DescFault, Fault, Numbered, Refusal, Statement};
-use ap_unit::Shelf;
+use ap_unit::{Shelf, UnitKind};
 use std::alloc::Global;
 
 /// Why a statement isn't taken.
@@ -78,8 +78,19 @@ fn empty_design(alloc: Global) -> Design {
 }
 
 impl Environment {
+    ghost use Rattle.ap_bits.specs.declared.card.Card.{Card};
+    ghost use Rattle.ap_check.specs.Closing.{completed};
+    ghost use Rattle.ap_check.specs.Known.{IsTaken, Knows};
+    ghost use Rattle.ap_check.specs.Noting.{noted_with};
+    ghost use Rattle.ap_desc.specs.declared.fault.DescFault.TheVariants as why;
+    ghost use Rattle.ap_desc.specs.declared.fault.Refusal.{Refusal as DeclaredRefusal};
+    ghost use Rattle.ap_desc.specs.FaultTable.{phase_of};
+    ghost use Rattle.ap_unit.specs.Shelves.{cards_of};
+
     /// Before the first statement.
-    pub(crate) fn new(alloc: Global) -> Environment {
+    pub(crate) fn new(alloc: Global) -> Environment
+        ensures { (cards : List Card) → Knows cards [] result }
+    {
         Environment {
             alloc,
             line: 0,
@@ -91,7 +102,9 @@ impl Environment {
     }
 
     /// The refusal of the line that is judged.
-    fn refusal(&self, kind: Fault) -> Refusal {
+    fn refusal(&self, kind: Fault) -> Refusal
+        ensures { result ≡ record { phase = phase_of kind; line = self.now.line; kind = kind } }
+    {
         Refusal {
             phase: kind.phase(),
             line: self.line,
@@ -100,7 +113,9 @@ impl Environment {
     }
 
     /// Notes a fault of widths where what is needed doesn't hold. Only the first one is kept.
-    pub(crate) fn need(&mut self, holds: bool, kind: Fault) {
+    pub(crate) fn need(&mut self, holds: bool, kind: Fault)
+        ensures { self.new ≡ record self.old { noted = noted_with self.old.noted self.old.line holds kind } }
+    {
         if !holds && self.noted.is_none() {
             self.noted = Some(self.refusal(kind));
         }
@@ -148,7 +163,12 @@ impl Environment {
     }
 
     /// The design of all statements, or the first fault of widths.
-    pub(crate) fn finish(mut self) -> Result<Design, DescFault> {
+    pub(crate) fn finish(mut self) -> Result<Design, DescFault>
+        ensures design { IfOk result (λ design. design ≡ completed self) }
+        ensures right { OnOk result (self.noted ≡ None) }
+        ensures refused { IfErr result (λ fault. (refusal : DeclaredRefusal)
+            → fault ≡ why.Refused refusal → self.noted ≡ Some refusal) }
+    {
         if let Some(refusal) = self.noted {
             return Err(DescFault::Refused(refusal));
         }

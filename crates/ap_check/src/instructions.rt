@@ -1,4 +1,5 @@
 //! Where an instruction begins and where it is complete.
+ghost use Rattle.std.specs.Prelude.{◌≡◌, None, OnOk};
 
 use crate::declared::place_in;
 use crate::environment::{Current, Environment, Stop};
@@ -35,6 +36,8 @@ fn patterns(word: u32, fields: &[Field], fixed: &[Option<u64>]) -> (u64, u64) {
 }
 
 impl Environment {
+    ghost use Rattle.ap_check.specs.Closing.{completed};
+
     /// The values that an instruction gives to the fields of its format, by the fields' places.
     fn fixed_values(
         &self,
@@ -90,7 +93,10 @@ impl Environment {
     }
 
     /// The instruction that began last is complete.
-    pub(crate) fn close(&mut self) -> Result<(), NoMemory> {
+    pub(crate) fn close(&mut self) -> Result<(), NoMemory>
+        ensures { OnOk result
+            (self.new ≡ record self.old { design = completed self.old; current = None }) }
+    {
         if let Some(Current { instr, format: _, locals: _ }) = self.current.take() {
             self.design.instrs.push(instr)?;
         }

@@ -67,19 +67,16 @@ fn shelf(alloc: Global) -> Result<Shelf, Fail> {
     }
 }
 
-/// The text with a line in the place of the one of this number, counted from 1; the line 0 stands for none.
-fn changed(alloc: Global, number: usize, line: &str) -> Result<String, Fail> {
-    let mut text = String::new(alloc);
-    let mut at = 0;
-    for old in base().lines() {
-        at += 1;
-        text.push_str(if at == number { line } else { old })?;
-        text.push_str("\n")?;
-        if at >= 100 {
-            break;
-        }
+/// The text with another line, or several, in the place of the one of this number, counted from 1; 0 is none.
+fn changed(alloc: Global, text: &str, number: u32, line: &str) -> Result<String, Fail> {
+    let mut made = String::new(alloc);
+    let mut at: u32 = 0;
+    for old in text.lines() {
+        at = at.wrapping_add(1);
+        made.push_str(if at == number { line } else { old })?;
+        made.push_str("\n")?;
     }
-    Ok(text)
+    Ok(made)
 }
 
 fn description(alloc: Global, text: &str) -> Result<Description, Fail> {
@@ -107,13 +104,13 @@ fn fault_of(alloc: Global, text: &str) -> Result<Option<(Fault, u32)>, Fail> {
 }
 
 /// Lines that may stand in the place of another: at the edges of what names and widths allow.
-fn accepted_lines() -> [(usize, &'static str); 18] {
+fn accepted_lines() -> [(u32, &'static str); 19] {
     [
         (0, ""),
         (1, "stages 8"),
         (4, "transfer 3 8"),
         (5, "reg R 16 0"),
-        (6, "reg a 1 1"),
+        (6, "reg ONE 1 1"),
         (17, "  1 a = F.r1 rs"),
         (18, "  1 i = sext 16 a"),
         (20, "  1 k = const 64 18446744073709551615"),
@@ -121,7 +118,8 @@ fn accepted_lines() -> [(usize, &'static str); 18] {
         (22, "  2 s = U.pass a k"),
         (23, "  2 x = slice 15 8 s"),
         (26, "  2 z = zext 8 x"),
-        (27, "  2 c = cat x rd"),
+        (11, "unit S shift 16\nunit X mul 16"),
+        (26, "  2 w = cat k k\n  2 y = cat w w\n  2 z = zext 64 y"),
         (28, "  3 F.w0 rs v when g"),
         (30, "  3 M.write x m when g"),
         (35, "  2 branch g link"),
@@ -131,7 +129,7 @@ fn accepted_lines() -> [(usize, &'static str); 18] {
 }
 
 /// Lines with a fault of names. A local that may not be used on its own line, and one like any field of the format, a fixed one too.
-fn name_faults() -> [(usize, &'static str, Fault); 27] {
+fn name_faults() -> [(u32, &'static str, Fault); 27] {
     [
         (6, "reg R 1 0", Fault::Twice),
         (7, "file R 16 8 2 1", Fault::Twice),
@@ -164,7 +162,7 @@ fn name_faults() -> [(usize, &'static str, Fault); 27] {
 }
 
 /// Lines with a fault of widths.
-fn width_faults() -> [(usize, &'static str, Fault); 36] {
+fn width_faults() -> [(u32, &'static str, Fault); 36] {
     [
         (1, "stages 9", Fault::Range),
         (1, "stages 1", Fault::Range),
@@ -182,8 +180,8 @@ fn width_faults() -> [(usize, &'static str, Fault); 36] {
         (7, "file F 16 8 2 3", Fault::Range),
         (8, "mem M 17 16", Fault::Range),
         (9, "in P 18446744073709551615", Fault::Range),
-        (10, "unit U shift 15", Fault::KindRefuses),
-        (10, "unit U shift 65", Fault::Range),
+        (11, "unit S shift 15\nunit X mul 16", Fault::KindRefuses),
+        (11, "unit S shift 65\nunit X mul 16", Fault::Range),
         (12, "format A op:4 rd:3 rs:3 imm:17", Fault::Range),
         (17, "  4 a = F.r0 rs", Fault::Range),
         (17, "  1 a = F.r0 imm", Fault::Differs),
@@ -209,7 +207,7 @@ fn width_faults() -> [(usize, &'static str, Fault); 36] {
 fn accepts_at_the_edges(rt: HostRuntime) -> Result<(), Fail> {
     let alloc = rt.alloc();
     for (number, line) in accepted_lines() {
-        let text = changed(alloc, number, line)?;
+        let text = changed(alloc, base(), number, line)?;
         assert_eq!(rt; fault_of(alloc, text.as_str())?, None, "{line}");
     }
     Ok(())
@@ -219,8 +217,8 @@ fn accepts_at_the_edges(rt: HostRuntime) -> Result<(), Fail> {
 fn names_faults_of_names(rt: HostRuntime) -> Result<(), Fail> {
     let alloc = rt.alloc();
     for (number, line, kind) in name_faults() {
-        let text = changed(alloc, number, line)?;
-        assert_eq!(rt; fault_of(alloc, text.as_str())?, Some((kind, number as u32)), "{line}");
+        let text = changed(alloc, base(), number, line)?;
+        assert_eq!(rt; fault_of(alloc, text.as_str())?, Some((kind, number)), "{line}");
     }
     Ok(())
 }
@@ -229,8 +227,48 @@ fn names_faults_of_names(rt: HostRuntime) -> Result<(), Fail> {
 fn names_faults_of_widths(rt: HostRuntime) -> Result<(), Fail> {
     let alloc = rt.alloc();
     for (number, line, kind) in width_faults() {
-        let text = changed(alloc, number, line)?;
-        assert_eq!(rt; fault_of(alloc, text.as_str())?, Some((kind, number as u32)), "{line}");
+        let text = changed(alloc, base(), number, line)?;
+        assert_eq!(rt; fault_of(alloc, text.as_str())?, Some((kind, number)), "{line}");
     }
+    Ok(())
+}
+
+/// Of two changes the fault that is named: names are looked at before widths, a line before a later one, and ports as they are written.
+fn two_changes() -> [((u32, &'static str), (u32, &'static str), (Fault, u32)); 6] {
+    [
+        ((5, "reg R 65 0"), (39, "  2 jump t"), (Fault::Unknown, 39)),
+        ((5, "reg R 65 0"), (6, "reg ONE 66 0"), (Fault::Range, 5)),
+        ((19, "  1 p = in R"), (22, "  2 s = U.mullo a i"), (Fault::Unknown, 19)),
+        ((7, "file F 16 8 0 1"), (0, ""), (Fault::Unknown, 17)),
+        ((23, "  2 x = slice 18446744073709551615 0 s"), (28, "  3 F.w1 rd v"), (Fault::Unknown, 28)),
+        (
+            (26, "  2 w = cat k k\n  2 y = cat w w\n  2 z = cat y g"),
+            (0, ""),
+            (Fault::Range, 28),
+        ),
+    ]
+}
+
+#[test]
+fn names_the_least_fault(rt: HostRuntime) -> Result<(), Fail> {
+    let alloc = rt.alloc();
+    for (one, other, fault) in two_changes() {
+        let text = changed(alloc, base(), one.0, one.1)?;
+        let text = changed(alloc, text.as_str(), other.0, other.1)?;
+        assert_eq!(rt; fault_of(alloc, text.as_str())?, Some(fault), "{}", one.1);
+    }
+    Ok(())
+}
+
+#[test]
+fn takes_latencies_from_cards(rt: HostRuntime) -> Result<(), Fail> {
+    let alloc = rt.alloc();
+    let Ok(design) = resolved(alloc, base())? else {
+        return Err("it is refused")?;
+    };
+    let units = design.units.as_slice();
+    assert_eq!(rt; units.len(), 2);
+    assert_eq!(rt; (units[0].kind, units[0].latency), (0, 1));
+    assert_eq!(rt; (units[1].kind, units[1].latency), (4, 17));
     Ok(())
 }
