@@ -1,7 +1,7 @@
 -- The design of an environment after all statements is the one that they describe.
 use Rattle.std.proofs.Common.{◌≡◌, List, [], ◌∷◌, ◌++◌, map, Option, Some, None, option_map, refl, sym, ap, ◌∙◌}
 use Rattle.std.specs.Prelude.{option_to_list, reverse}
-use Rattle.std.proofs.lemmas.List.{map-append}
+use Rattle.std.proofs.lemmas.List.{map-append, reverse-append}
 use Rattle.ap_bits.specs.declared.card.Card.{Card}
 use Rattle.ap_desc.specs.declared.description.Numbered.{Numbered}
 use Rattle.ap_desc.specs.declared.design.Design.{Design}
@@ -21,7 +21,7 @@ instrs_completed cards design [] closed (Some current) h = absurd h
 instrs_completed cards design (b ∷ blocks) closed None h = absurd h
 instrs_completed cards design (b ∷ blocks) closed (Some current) h =
     ap (λ l. l ++ current.instr ∷ []) h.0 ∙ ap (λ i. map (instr_of cards design) (reverse blocks) ++ i ∷ []) h.1
-    ∙ sym (map-append (instr_of cards design) (reverse blocks) (b ∷ []))
+    ∙ sym (map-append (instr_of cards design) (reverse blocks) (b ∷ [])) ∙ ap (map (instr_of cards design)) (sym (reverse-append (b ∷ []) blocks))
 
 pub completed_is : (cards : List Card) (statements : List Numbered) (env : Environment) → Describes cards statements env → completed env ≡ design_of statements cards
 completed_is cards statements env h =

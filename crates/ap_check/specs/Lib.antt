@@ -1,4 +1,5 @@
 pub mod Closing
+pub mod Judged
 pub mod Known
 pub mod Names
 pub mod Noting
