@@ -150,8 +150,6 @@ fn drive_outputs(
     held: Pair,
     running: Wire,
 ) -> Result<(), NoMemory>
-    requires low { 1 ≤ ports.y.width }
-    requires high { ports.y.width ≤ 64 }
     requires limit { out.old ≡ with_limit out.old.name ports.y.width k }
     requires ports { ports ≡ port_wires ports.y.width }
     requires held { held ≡ record { high = wire 8 ports.y.width; low = wire 9 ports.y.width } }
