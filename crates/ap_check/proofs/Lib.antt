@@ -1,4 +1,4 @@
-pub mod Closed
+pub mod FirstFaults
 pub mod NameLists
+pub mod NumberTests
 pub mod Places
-pub mod Refused

@@ -1,4 +1,4 @@
-ghost use Rattle.std.specs.Prelude.{◌≡◌, ◌<◌, ◌^◌, [], not, length, IfOk, OnOk};
+ghost use Rattle.std.specs.Prelude.{◌≡◌, ◌<◌, ◌^◌, [], OnOk};
 ghost use Rattle.ap_check.specs.Names.{IsPlaceOf, with_name};
 ghost use Rattle.ap_desc.specs.Reserved.{is_among};
 
@@ -7,23 +7,29 @@ use indexmap::IndexSet;
 use std::alloc::Global;
 use std::marker::Model;
 
-/// Names in the order in which they were declared, each at its place, counted from 0. Contracts see their list.
+/// Names in the order in which they were declared, each at its place, counted from 0. There are fewer than 2^32. Contracts see
+/// their list.
 #[derive(Drop)]
 pub(crate) struct Names {
     names: IndexSet<String>,
 }
 
 impl Model for Names {
-    ghost use Rattle.std.specs.Prelude.{List, ℕ, map};
+    ghost use Rattle.std.specs.Prelude.{List, ℕ, ◌<◌, ◌^◌, length, map};
     ghost use Rattle.std.specs.String.{string_bytes};
     ghost use Rattle.indexmap.specs.IndexSet.{keys};
 
     ghost Value = { List (List ℕ) };
 
     ghost view = { λ n. map string_bytes n.names.keys };
+
+    ghost invariant = { λ n. length n.names.keys < 2 ^ 32 };
 }
 
 impl Names {
+    /// The most names.
+    const MOST: usize = 4_294_967_295;
+
     /// No names.
     pub(crate) fn new(alloc: Global) -> Names
         ensures { result ≡ [] }
@@ -31,13 +37,6 @@ impl Names {
         Names {
             names: IndexSet::new(alloc),
         }
-    }
-
-    /// How many there are.
-    pub(crate) fn len(&self) -> usize
-        ensures { result ≡ length self.now }
-    {
-        self.names.len()
     }
 
     /// Whether the name is among them.
@@ -48,19 +47,24 @@ impl Names {
     }
 
     /// The place of a name.
-    pub(crate) fn place(&self, name: &str) -> Option<usize>
+    pub(crate) fn place(&self, name: &str) -> Option<u32>
         ensures { IsPlaceOf self.now name.now result }
     {
-        self.names.get_index_of(name)
+        match self.names.get_index_of(name) {
+            Some(place) => Some(place as u32),
+            None => None,
+        }
     }
 
-    /// Adds a name at the end, and tells whether it is new. One that is there already stays at its place.
-    pub(crate) fn add(&mut self, alloc: Global, name: &str) -> Result<bool, NoMemory>
-        ensures new { IfOk result (λ new. new ≡ not (is_among name.now self.old)) }
-        ensures names { OnOk result (self.new ≡ with_name self.old name.now) }
+    /// Adds a name at the end. One that is there already stays at its place.
+    pub(crate) fn add(&mut self, alloc: Global, name: &str) -> Result<(), NoMemory>
+        ensures { OnOk result (self.new ≡ with_name self.old name.now) }
     {
+        if self.names.len() >= Names::MOST {
+            return Err(NoMemory);
+        }
         let name = String::from_str(alloc, name)?;
-        let new = self.names.insert(name)?;
-        Ok(new)
+        let _new = self.names.insert(name)?;
+        Ok(())
     }
 }

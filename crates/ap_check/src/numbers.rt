@@ -102,7 +102,7 @@ pub(crate) fn is_field_width(word: u32, width: u64) -> bool
 pub(crate) fn has_bits(width: u64, value: u64) -> bool
     ensures { result ≡ designs.has_bits width value }
 {
-    width >= 64 || value >> width == 0
+    width >= 64 || value < 1 << width
 }
 
 /// Whether so many bits number so many cells.
