@@ -1,4 +1,10 @@
 pub mod FirstFaults
+pub mod FirstOf
+pub mod LineFaults
+pub mod NameGrowth
 pub mod NameLists
+pub mod NewUnit
 pub mod NumberTests
+pub mod Outer
 pub mod Places
+pub mod TableFaults

@@ -1,3 +1,5 @@
+pub mod Drafts
+pub mod Known
 pub mod Names
 pub mod Numbers
 pub mod Phases

@@ -8,10 +8,10 @@ abbrev pub HoldsNoneOf : (Fault → Bool) → ℕ → Type 0
 HoldsNoneOf holds phase = (kind : Fault) → phase_of kind ≡ phase → holds kind ≡ false
 
 -- this kind of the phase holds, and none of a lower number
-pub record IsFirstOf (holds : Fault → Bool) (looked_for : ℕ) (kind : Fault) : Type 0 where
+pub record IsFirstOf (test : Fault → Bool) (looked_for : ℕ) (kind : Fault) : Type 0 where
   pub phase : phase_of kind ≡ looked_for
-  pub holds : IsTrue (holds kind)
-  pub first : (other : Fault) → phase_of other ≡ looked_for → number_of other < number_of kind → holds other ≡ false
+  pub holds : IsTrue (test kind)
+  pub first : (other : Fault) → phase_of other ≡ looked_for → number_of other < number_of kind → test other ≡ false
 
 -- the fault of the phase, if there is one
 abbrev pub IsFaultOf : (Fault → Bool) → ℕ → Option Fault → Type 0

@@ -2,7 +2,9 @@
 #![tactic(auto)]
 
 mod declared;
+mod draft;
 mod line_uses;
+mod lines;
 mod names;
 mod numbers;
 mod stop;

@@ -4,13 +4,16 @@ ghost use Rattle.std.specs.List.{list_any};
 ghost use Rattle.ap_bits.specs.Cards.{operation_names};
 ghost use Rattle.ap_check.specs.Uses.{IsAssigned};
 ghost use Rattle.ap_desc.specs.NameFaults.{is_missing};
+ghost use Rattle.ap_desc.specs.Parts.{card_named};
+ghost use Rattle.ap_unit.specs.Shelves.{cards_of};
+ghost use Rattle.std.specs.Option.{option_map_or};
 ghost use Rattle.ap_desc.specs.Sound.{are_distinct};
 ghost use Rattle.ap_desc.specs.Spelling.{field_names};
 ghost use Rattle.ap_desc.specs.declared.statement.FieldNumber.{FieldNumber as DeclaredFieldNumber};
 
 use crate::declared::{Declared, Ports, place_in};
 use crate::names::Names;
-use crate::stop::{Stop, need};
+use crate::stop::Stop;
 use ap_bits::{Name, NoMemory};
 use ap_desc::design::Act;
 use ap_desc::{Fault, FieldNumber, Statement};
@@ -69,6 +72,17 @@ fn operations_of(alloc: Global, kind: &dyn UnitKind) -> Result<Names, NoMemory>
     Ok(names)
 }
 
+/// The names of the operations of the kind of a name; none where there is no such kind.
+fn operations_named(alloc: Global, shelf: &Shelf, kind: &Name) -> Result<Names, NoMemory>
+    ensures { IfOk result (λ names. names
+        ≡ option_map_or operation_names (card_named (cards_of card shelf.now) kind.now) []) }
+{
+    match shelf.find(kind.as_str()) {
+        Some(place) => operations_of(alloc, shelf.kind(place)),
+        None => Ok(Names::new(alloc)),
+    }
+}
+
 /// The local that a line assigns.
 fn assigned(statement: &Statement) -> Option<&Name>
     ensures { IsAssigned statement.now (option_map (λ to. to.now) result) }
@@ -92,7 +106,6 @@ impl Declared {
     ghost use Rattle.ap_check.specs.Tables.{names_at};
     ghost use Rattle.ap_check.specs.Uses.{IsUse, declared_with, with_fields, with_format, with_unit};
     ghost use Rattle.ap_desc.specs.declared.statement.Statement.TheVariants as s;
-    ghost use Rattle.ap_unit.specs.Shelves.{cards_of};
 
     /// A part has a new name.
     #[tactic(auto, using(crate::proofs::FirstFaults::first_faults))]
@@ -138,6 +151,17 @@ impl Declared {
         }
     }
 
+    /// Whether a field that is given a value isn't one of the format at this place.
+    fn has_unknown(&self, format: u32, fixed: &[FieldNumber]) -> bool
+        ensures { result ≡ list_any (λ (f : DeclaredFieldNumber).
+            is_missing f.field (names_at self.now.fields format)) fixed.now }
+    {
+        match self.fields.as_slice().get(format as usize) {
+            Some(names) => has_missing(names, fixed),
+            None => fixed.iter().any(|_| true),
+        }
+    }
+
     /// The fields that an instruction fixes are fields of the format at this place.
     fn known_fields(&self, format: u32, fixed: &[FieldNumber]) -> Result<(), Fault>
         ensures known { OnOk result (list_any (λ (f : DeclaredFieldNumber).
@@ -146,11 +170,10 @@ impl Declared {
             is_missing f.field (names_at self.now.fields format)) fixed.now ≡ true) }
         ensures kind { IfErr result (λ kind. kind ≡ Fault.Unknown) }
     {
-        let missing = match self.fields.as_slice().get(format as usize) {
-            Some(names) => has_missing(names, fixed),
-            None => !fixed.is_empty(),
-        };
-        need(!missing, Fault::Unknown)
+        if self.has_unknown(format, fixed) {
+            return Err(Fault::Unknown);
+        }
+        Ok(())
     }
 
     /// `instr NAME FORMAT FIELD=VALUE ..`
@@ -214,10 +237,7 @@ impl Declared {
         ensures { OnOk result (self.new
             ≡ with_unit (cards_of card shelf.now) self.old name.now kind.now) }
     {
-        let operations = match shelf.find(kind.as_str()) {
-            Some(place) => operations_of(alloc, shelf.kind(place))?,
-            None => Names::new(alloc),
-        };
+        let operations = operations_named(alloc, shelf, kind)?;
         self.units.add(alloc, name.as_str())?;
         self.operations.push(operations)?;
         Ok(())
