@@ -1,10 +1,14 @@
+pub mod DraftLines
+pub mod FieldLists
 pub mod FirstFaults
 pub mod FirstOf
 pub mod LineFaults
 pub mod NameGrowth
 pub mod NameLists
 pub mod NewUnit
+pub mod Noted
 pub mod NumberTests
 pub mod Outer
 pub mod Places
+pub mod Refused
 pub mod TableFaults

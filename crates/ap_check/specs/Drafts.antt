@@ -1,6 +1,7 @@
 -- The design as far as its statements have come: what a statement adds, and the faults of widths that stop it.
-use Rattle.std.specs.Prelude.{◌≡◌, ℕ, ◌+◌, ◌-◌, ◌<◌, ◌++◌, not, Bool, false, List, [], ◌∷◌, ◌||◌, Option, Some, None, option_map, option_to_list, slice_get, if◌then◌else◌, Result, MatchResult}
+use Rattle.std.specs.Prelude.{◌≡◌, ℕ, ◌+◌, ◌-◌, ◌<◌, ◌++◌, not, Bool, false, List, [], ◌∷◌, ◌||◌, Option, Some, None, map, min, sum_by, option_map, option_to_list, slice_get, if◌then◌else◌, Result, MatchResult}
 use Rattle.std.specs.Option.{option_map_or}
+use Rattle.ap_bits.specs.Cards.{allows, latency_at}
 use Rattle.ap_bits.specs.declared.card.Card.{Card}
 use Rattle.ap_desc.specs.declared.design.Act.{Act}
 use Rattle.ap_desc.specs.declared.design.Act.TheVariants as act
@@ -8,15 +9,19 @@ use Rattle.ap_desc.specs.declared.design.Arg.{Arg}
 use Rattle.ap_desc.specs.declared.design.Design.{Design}
 use Rattle.ap_desc.specs.declared.design.Field.{Field}
 use Rattle.ap_desc.specs.declared.design.File.{File}
+use Rattle.ap_desc.specs.declared.design.Format.{Format}
 use Rattle.ap_desc.specs.declared.design.Instr.{Instr}
 use Rattle.ap_desc.specs.declared.design.Micro.{Micro}
 use Rattle.ap_desc.specs.declared.fault.Fault.{Fault}
 use Rattle.ap_desc.specs.declared.fault.Fault.TheVariants as f
 use Rattle.ap_desc.specs.declared.statement.Statement.{Statement}
-use Rattle.ap_desc.specs.Designs.{arg_width, fields_of, is_stage, local_width, width_at}
+use Rattle.ap_desc.specs.declared.statement.FieldNumber.{FieldNumber}
+use Rattle.ap_desc.specs.Instructions.{fixed_of}
+use Rattle.ap_desc.specs.Designs.{is_width, arg_width, fields_of, is_stage, local_width, width_at}
 use Rattle.ap_desc.specs.Scope.{Scope, with_declared}
 use Rattle.ap_desc.specs.WidthFaults.{is_different, is_no_slice, is_off_target, is_out_of_range, is_refused, is_too_wide, is_wide_test}
 use Rattle.ap_desc.specs.Widths as w
+use Rattle.ap_check.specs.FixedBits.{mask_of, value_of}
 use Rattle.ap_check.specs.Numbers.{narrowed}
 use Rattle.ap_check.specs.Uses.{IsStoppedBy}
 use Rattle.ap_check.specs.declared.draft.Draft.{Draft}
@@ -81,3 +86,38 @@ AreNarrow design width (act.Slice high low a) = width a < 4294967296
 AreNarrow design width (act.ReadFile file port index) = width_at (λ (x : File). x.reads) design.files file < 4294967296
 AreNarrow design width (act.WriteFile file port index value guard) = width_at (λ (x : File). x.writes) design.files file < 4294967296
 AreNarrow design width _ = Unit {0}
+
+-- the first fault of widths of a unit of a kind of this card
+abbrev pub unit_fault : Card → ℕ → Option Fault
+unit_fault card width = first_width_fault (not (is_width width)) false false false false false (not (allows card.widths width))
+
+-- the design has the unit of the kind of this card and place; or its first fault of widths stops it
+abbrev pub IsUnitSaid : Card → Draft → ℕ → List ℕ → ℕ → Draft → Result (Unit {0}) Stop → Type 0
+IsUnitSaid card old place name width new result = MatchResult result
+    (λ _. (unit_fault card width ≡ None)
+        × (new ≡ record old { design = record old.design { units = old.design.units ++ record { name = name; kind = place; width = width; latency = latency_at card width } ∷ [] } }))
+    (IsStoppedBy (unit_fault card width))
+
+-- the fields of the format at a place
+abbrev pub fields_at : Draft → ℕ → List Field
+fields_at draft i = option_map_or (λ (x : Format). x.fields) (slice_get draft.design.formats i) []
+
+-- the design, the instruction that began last included
+abbrev pub completed : Draft → Design
+completed draft = record draft.design { instrs = draft.design.instrs ++ option_to_list draft.begun }
+
+-- an instruction begins, of the format at a place
+abbrev pub with_instr : Draft → ℕ → List ℕ → ℕ → List FieldNumber → Draft
+with_instr draft line name format fixed = record draft {
+  design = completed draft;
+  begun = Some (record {
+    name = name;
+    line = line;
+    format = format;
+    fixed = map (fixed_of fixed) (fields_at draft format);
+    fixed_mask = min (sum_by (mask_of (min draft.design.word 64) fixed) (fields_at draft format)) 18446744073709551615;
+    fixed_value = min (sum_by (value_of (min draft.design.word 64) fixed) (fields_at draft format)) 18446744073709551615;
+    locals = [];
+    micros = [];
+  });
+}

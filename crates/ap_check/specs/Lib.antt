@@ -1,4 +1,6 @@
+pub mod Added
 pub mod Drafts
+pub mod FixedBits
 pub mod Known
 pub mod Names
 pub mod Numbers

@@ -3,15 +3,18 @@ ghost use Rattle.std.specs.Prelude.{◌≡◌, ◌<◌, IfErr, IfOk, None, OnOk,
 ghost use Rattle.ap_desc.specs.Designs.{is_between};
 ghost use Rattle.ap_desc.specs.Designs as designs;
 
+use crate::fields::{fixed_bits, fixed_mask, fixed_values, has_wrong_field, placed_fields};
+use crate::names::Names;
 use crate::numbers::has_bits;
 use crate::stop::{Stop, need};
-use ap_bits::{Items, Name};
-use ap_desc::Fault;
-use ap_desc::design::{Design, File, InPort, Instr, Mem, Reg};
+use ap_bits::{Items, Name, NoMemory};
+use ap_desc::{Fault, FieldNumber};
+use ap_desc::design::{Design, Field, File, Format, InPort, Instr, Mem, Reg, Unit};
 use ap_desc::limits::{
     MAX_ADDRESS_BITS, MAX_MEMORY_ADDRESS_BITS, MAX_READ_PORTS, MAX_SLOTS, MAX_STAGES, MAX_WIDTH,
     MAX_WORD_BITS, MAX_WRITE_PORTS, MIN_ADDRESS_BITS, MIN_STAGES, MIN_WORD_BITS,
 };
+use ap_unit::UnitKind;
 use std::alloc::Global;
 
 /// The design so far, and the instruction that began last, which isn't among the design's yet.
@@ -69,7 +72,8 @@ fn cell_count(cells: u64) -> Result<u32, Fault>
 }
 
 impl Draft {
-    ghost use Rattle.ap_check.specs.Drafts.{IsSaid};
+    ghost use Rattle.ap_check.specs.Drafts.{IsSaid, IsUnitSaid, completed, fields_at, with_instr};
+    ghost use Rattle.ap_desc.specs.Spelling.{field_names};
     ghost use Rattle.ap_desc.specs.declared.statement.Statement.TheVariants as s;
 
     /// Before the first statement.
@@ -226,6 +230,107 @@ impl Draft {
         let width = within(1, MAX_WIDTH, width)?;
         let name = name.copy(alloc)?;
         self.design.inputs.push(InPort { name, width })?;
+        Ok(())
+    }
+
+    /// `unit NAME KIND WIDTH`, of the kind at this place of the shelf.
+    #[tactic(auto, using(crate::proofs::FirstFaults::width_faults))]
+    pub(crate) fn unit(
+        &mut self,
+        alloc: Global,
+        kind: &dyn UnitKind,
+        place: u32,
+        name: &Name,
+        width: u64,
+    ) -> Result<(), Stop>
+        ensures { IsUnitSaid (card kind.now) self.old place name.now width self.new result }
+    {
+        let width = within(1, MAX_WIDTH, width)?;
+        need(kind.fits(width), Fault::KindRefuses)?;
+        let latency = kind.latency(width);
+        let name = name.copy(alloc)?;
+        let unit = Unit {
+            name,
+            kind: place,
+            width,
+            latency,
+        };
+        self.design.units.push(unit)?;
+        Ok(())
+    }
+
+    /// `format NAME FIELD:WIDTH ..`
+    #[tactic(auto, using(crate::proofs::FirstFaults::width_faults))]
+    pub(crate) fn format(
+        &mut self,
+        alloc: Global,
+        line: u32,
+        name: &Name,
+        fields: &[FieldNumber],
+    ) -> Result<(), Stop>
+        ensures { IsSaid [] line self.old (s.Format name.now fields.now) self.new result }
+    {
+        if has_wrong_field(self.design.word, fields) {
+            return Err(Stop::Fault(Fault::Range));
+        }
+        let fields = placed_fields(alloc, fields)?;
+        let name = name.copy(alloc)?;
+        let format = Format { name, line, fields };
+        self.design.formats.push(format)?;
+        Ok(())
+    }
+
+    /// The fields of the format at a place.
+    fn fields_at(&self, format: u32) -> &[Field]
+        ensures { result.now ≡ fields_at self.now format }
+    {
+        match self.design.formats.as_slice().get(format as usize) {
+            Some(format) => format.fields.as_slice(),
+            None => &[],
+        }
+    }
+
+    /// `instr NAME FORMAT FIELD=VALUE ..`, of the format at this place, with the names of the fields that it fixes.
+    pub(crate) fn instr(
+        &mut self,
+        alloc: Global,
+        line: u32,
+        name: &Name,
+        format: u32,
+        names: &Names,
+        fixed: &[FieldNumber],
+    ) -> Result<(), NoMemory>
+        requires { names.now ≡ field_names fixed.now }
+        ensures { OnOk result (self.new ≡ with_instr self.old line name.now format fixed.now) }
+    {
+        let word = self.design.word.min(64);
+        let fields = self.fields_at(format);
+        let values = fixed_values(alloc, fields, names, fixed)?;
+        let fixed_mask = fixed_mask(word, fields, names, fixed);
+        let fixed_value = fixed_bits(word, fields, names, fixed);
+        let name = name.copy(alloc)?;
+        self.close()?;
+        self.begun = Some(Instr {
+            name,
+            line,
+            format,
+            fixed: values,
+            fixed_mask,
+            fixed_value,
+            locals: Items::new(alloc),
+            micros: Items::new(alloc),
+        });
+        Ok(())
+    }
+
+    /// The instruction that began last is complete.
+    pub(crate) fn close(&mut self) -> Result<(), NoMemory>
+        ensures { OnOk result
+            (self.new ≡ record self.old { design = completed self.old; begun = None }) }
+    {
+        if let Some(instr) = self.begun.take() {
+            self.design.instrs.push(instr)?;
+        }
         Ok(())
     }
 }

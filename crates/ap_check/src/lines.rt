@@ -1,5 +1,5 @@
 //! What a line of an instruction needs of the widths of its operands, and what it adds.
-ghost use Rattle.std.specs.Prelude.{◌≡◌, IfErr, None, OnOk, Some};
+ghost use Rattle.std.specs.Prelude.{◌≡◌, ◌<◌, IfErr, None, OnOk, Some};
 ghost use Rattle.ap_desc.specs.Designs.{width_at};
 ghost use Rattle.ap_desc.specs.Widths as w;
 
@@ -21,7 +21,7 @@ macro_rules! at {
 }
 
 impl Draft {
-    ghost use Rattle.ap_check.specs.Drafts.{draft_fields, draft_widths, line_fault, local_in, width_in, with_line};
+    ghost use Rattle.ap_check.specs.Drafts.{AreNarrow, draft_fields, draft_widths, line_fault, local_in, width_in, with_line};
     ghost use Rattle.ap_check.specs.Numbers.{narrowed};
     ghost use Rattle.ap_check.specs.Uses.{IsStoppedBy};
     ghost use Rattle.ap_desc.specs.declared.design.InPort.{InPort as DeclaredInPort};
@@ -205,6 +205,26 @@ impl Draft {
         }
     }
 
+    /// The numbers that a line's numbers are compared with have 32 bits, as a fact that callers can use.
+    fn ranges(&self, act: &Act)
+        ensures stages { self.now.design.stages < 4294967296 }
+        ensures act { AreNarrow self.now.design (width_in self.now) act.now }
+    {
+        let _stages = self.design.stages;
+        match *act {
+            Act::Slice { a, .. } => {
+                let _width = self.width(a);
+            }
+            Act::ReadFile { file, .. } => {
+                let _reads = at!(self.design.files, file, reads);
+            }
+            Act::WriteFile { file, .. } => {
+                let _writes = at!(self.design.files, file, writes);
+            }
+            _ => {}
+        }
+    }
+
     /// The first fault of widths of a line.
     #[tactic(auto, using(crate::proofs::FirstFaults::width_faults))]
     fn check(&self, stage: u64, act: &Act) -> Result<(), Fault>
@@ -250,7 +270,10 @@ impl Draft {
             (line_fault self.old.design (width_in self.old) stage act ≡ None) }
         ensures stopped { IfErr result
             (IsStoppedBy (line_fault self.old.design (width_in self.old) stage act)) }
+        ensures stages { self.old.design.stages < 4294967296 }
+        ensures narrow { AreNarrow self.old.design (width_in self.old) act }
     {
+        self.ranges(&act);
         self.check(stage, &act)?;
         let width = self.local_width(&act);
         let stage = narrow(stage);
