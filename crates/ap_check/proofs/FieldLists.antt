@@ -1,7 +1,7 @@
 -- Sums and lists of fields, field by field.
 use Rattle.std.proofs.Common.{◌≡◌, ℕ, ◌+◌, ◌<◌, ◌≤◌, List, [], ◌∷◌, ◌++◌, suc, length, map, take, drop, get_or, sum_by, refl, sym, ap, subst, ◌∙◌, arith, append_assoc, drop-cons, add-one}
 use Rattle.std.proofs.lemmas.List.{map-append, take_more}
-use Rattle.std.proofs.lemmas.List.Sums.{sum_by-drop_more, sum_by_more}
+use Rattle.std.proofs.lemmas.List.Sums.{sum_by-cons, sum_by-drop_more, sum_by_more}
 use Rattle.ap_desc.specs.declared.design.Field.{Field}
 use Rattle.ap_desc.specs.declared.statement.FieldNumber.{FieldNumber}
 use Rattle.ap_desc.specs.Declarations.{fields_said}
@@ -11,7 +11,9 @@ pub ruleset field_sums = (sum_by-drop_more, sum_by_more)
 -- the widths of the fields are the numbers that stand with them
 pub widths_said : (fields : List FieldNumber) → sum_by (λ (x : Field). x.width) (fields_said fields) ≡ sum_by (λ (f : FieldNumber). f.number) fields
 widths_said [] = refl
-widths_said (f ∷ fields) = ap (λ n. f.number + n) (widths_said fields)
+widths_said (f ∷ fields) =
+    sum_by-cons (λ (x : Field). x.width) (record { name = f.field; width = f.number; low = sum_by (λ (x : Field). x.width) (fields_said fields) }) (fields_said fields)
+    ∙ ap (λ n. f.number + n) (widths_said fields) ∙ sym (sum_by-cons (λ (x : FieldNumber). x.number) f fields)
 
 -- one more field is placed
 pub placed_more : (fields : List FieldNumber) (i : ℕ) (x : FieldNumber) (placed : List Field) (low : ℕ) → i < length fields → x ≡ get_or fields i x

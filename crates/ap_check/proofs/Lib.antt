@@ -1,8 +1,11 @@
+pub mod Begins
 pub mod DraftLines
 pub mod FieldLists
 pub mod FirstFaults
 pub mod FirstOf
+pub mod FixedBits
 pub mod LineFaults
+pub mod LineSteps
 pub mod NameGrowth
 pub mod NameLists
 pub mod NewUnit
