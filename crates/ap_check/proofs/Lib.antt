@@ -4,7 +4,9 @@ pub mod FieldLists
 pub mod FirstFaults
 pub mod FirstOf
 pub mod FixedBits
+pub mod KeptActs
 pub mod LineFaults
+pub mod LineStep
 pub mod LineSteps
 pub mod NameGrowth
 pub mod NameLists
