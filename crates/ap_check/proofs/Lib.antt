@@ -17,3 +17,4 @@ pub mod Outer
 pub mod Places
 pub mod Refused
 pub mod TableFaults
+pub mod Taken
