@@ -1,6 +1,7 @@
 pub mod Begins
 pub mod DraftLines
 pub mod FieldLists
+pub mod Finished
 pub mod FirstFaults
 pub mod FirstOf
 pub mod FixedBits
@@ -16,5 +17,6 @@ pub mod NumberTests
 pub mod Outer
 pub mod Places
 pub mod Refused
+pub mod Started
 pub mod TableFaults
 pub mod Taken

@@ -19,7 +19,7 @@ use Rattle.ap_check.proofs.Places.{IsBeside, beside, later_line}
 abbrev FaultAt : List Card → List Numbered → Numbered → Fault → ℕ → Type 0
 FaultAt cards before n kind line = (n.line ≡ line) × IsTrue (is_faulty cards (scope_after before cards) n.statement kind)
 
-no_parts : {X : Type 0} (mid : List X) (x : X) (after : List X) → [] ≡ mid ++ x ∷ after → ⊥
+pub no_parts : {X : Type 0} (mid : List X) (x : X) (after : List X) → [] ≡ mid ++ x ∷ after → ⊥
 no_parts [] x after e = cc
 no_parts (y ∷ mid) x after e = cc
 

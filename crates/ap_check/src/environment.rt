@@ -6,6 +6,7 @@ use crate::declared::Declared;
 use crate::draft::Draft;
 use crate::stop::Stop;
 use ap_desc::design::Design;
+use ap_desc::laws::descriptions_grow;
 use ap_desc::{DescFault, Fault, Numbered, Refusal};
 use ap_unit::{Shelf, UnitKind};
 use std::alloc::Global;
@@ -68,6 +69,7 @@ impl Environment {
             → Knows (cards_of card shelf.now) statements before self.old
             → IsTaken (cards_of card shelf.now) statements before n.now self.new result }
     {
+        descriptions_grow();
         let used = match self.declared.uses(alloc, shelf, &n.statement) {
             Ok(used) => used,
             Err(Stop::Fault(kind)) => return Err(DescFault::Refused(refusal(n.line, kind))),

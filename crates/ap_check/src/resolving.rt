@@ -34,6 +34,7 @@ pub fn resolve(
     ensures refused { IfErr result (IsResolveFault description.now (cards_of card shelf.now)) }
 {
     faultless_descriptions_are_sound();
+    description.rules();
     let mut environment = Environment::new(alloc);
     for n in description.statements() {
         environment.take(alloc, shelf, n)?;
