@@ -8,3 +8,4 @@ pub mod Phases
 pub mod Resolved
 pub mod Tables
 pub mod Uses
+pub mod Taking

@@ -5,6 +5,8 @@ ghost use Rattle.ap_desc.specs.FaultTable.{phase_of};
 use crate::declared::Declared;
 use crate::draft::Draft;
 use crate::stop::Stop;
+use crate::uses::Use;
+use ap_bits::NoMemory;
 use ap_desc::design::Design;
 use ap_desc::laws::descriptions_grow;
 use ap_desc::{DescFault, Fault, Numbered, Refusal};
@@ -34,7 +36,13 @@ fn refusal(line: u32, kind: Fault) -> Refusal
 
 impl Environment {
     ghost use Rattle.ap_bits.specs.declared.card.Card.{Card};
+    ghost use Rattle.ap_check.specs.Added.{HasFixed};
     ghost use Rattle.ap_check.specs.Drafts.{completed};
+    ghost use Rattle.ap_check.specs.Tables.{name_fault};
+    ghost use Rattle.ap_check.specs.Taking.{IsDescribedAfter, IsRefusedAt};
+    ghost use Rattle.ap_check.specs.Uses.{use_of};
+    ghost use Rattle.ap_desc.specs.NameFaults.{is_no_kind};
+    ghost use Rattle.std.specs.Prelude.{false};
     ghost use Rattle.ap_check.specs.Known.{IsTaken, Knows};
     ghost use Rattle.ap_desc.specs.Descriptions.{IsDescription};
     ghost use Rattle.ap_desc.specs.declared.description.Numbered.{Numbered as DeclaredNumbered};
@@ -55,7 +63,50 @@ impl Environment {
         }
     }
 
-    /// Judges one more statement, and adds what it declares and does.
+    /// What a statement uses. `Refused` comes for its first fault of names.
+    fn used(&self, alloc: Global, shelf: &Shelf, n: &Numbered) -> Result<Use, DescFault>
+        ensures clean { IfOk result (λ _. name_fault (cards_of card shelf.now) self.now.declared
+            n.now.statement ≡ None) }
+        ensures used { IfOk result (λ used. used
+            ≡ use_of (cards_of card shelf.now) self.now.declared n.now.statement) }
+        ensures refused { IfErr result (IsRefusedAt n.now.line
+            (name_fault (cards_of card shelf.now) self.now.declared n.now.statement)) }
+    {
+        match self.declared.uses(alloc, shelf, &n.statement) {
+            Ok(used) => Ok(used),
+            Err(Stop::Fault(kind)) => Err(DescFault::Refused(refusal(n.line, kind))),
+            Err(Stop::NoMemory) => Err(DescFault::NoMemory),
+        }
+    }
+
+    /// Adds what a statement describes, or notes its first fault of widths. After one nothing more is added.
+    fn describe(
+        &mut self,
+        alloc: Global,
+        shelf: &Shelf,
+        n: &Numbered,
+        used: &Use,
+    ) -> Result<(), NoMemory>
+        requires fixed { HasFixed n.now.statement used.now }
+        requires kind { is_no_kind (cards_of card shelf.now) n.now.statement ≡ false }
+        ensures declared { OnOk result (self.new.declared ≡ self.old.declared) }
+        ensures described { OnOk result (IsDescribedAfter self.old.noted (cards_of card shelf.now)
+            n.now used.now self.old self.new) }
+    {
+        if self.noted.is_some() {
+            return Ok(());
+        }
+        match self.draft.add(alloc, shelf, n, used) {
+            Ok(()) => Ok(()),
+            Err(Stop::Fault(kind)) => {
+                self.noted = Some(refusal(n.line, kind));
+                Ok(())
+            }
+            Err(Stop::NoMemory) => Err(NoMemory),
+        }
+    }
+
+    /// Judges one more statement, and adds what it declares and describes.
     ///
     /// `Refused` comes for a fault of names. A fault of widths is noted, and after one only names are looked at.
     pub(crate) fn take(
@@ -70,18 +121,8 @@ impl Environment {
             → IsTaken (cards_of card shelf.now) statements before n.now self.new result }
     {
         descriptions_grow();
-        let used = match self.declared.uses(alloc, shelf, &n.statement) {
-            Ok(used) => used,
-            Err(Stop::Fault(kind)) => return Err(DescFault::Refused(refusal(n.line, kind))),
-            Err(Stop::NoMemory) => return Err(DescFault::NoMemory),
-        };
-        if self.noted.is_none() {
-            match self.draft.add(alloc, shelf, n, &used) {
-                Ok(()) => {}
-                Err(Stop::Fault(kind)) => self.noted = Some(refusal(n.line, kind)),
-                Err(Stop::NoMemory) => return Err(DescFault::NoMemory),
-            }
-        }
+        let used = self.used(alloc, shelf, n)?;
+        self.describe(alloc, shelf, n, &used)?;
         self.declared.declare(alloc, shelf, &n.statement, used)?;
         Ok(())
     }
