@@ -20,3 +20,6 @@ mod stop;
 mod uses;
 
 pub use resolving::resolve;
+
+#[cfg(test)]
+mod tests;
