@@ -49,10 +49,10 @@ all_placed (n ∷ statements) = one_placed n.line n.statement statements (all_pl
 
 found_placed : (formats : List Format) (name : List ℕ) → Each (λ (f : Format). ArePlaced f.fields) formats → ArePlaced (option_map_or (λ (f : Format). f.fields) (named (λ (f : Format). f.name) formats name) [])
 found_placed [] name each = tt
-found_placed (f ∷ formats) name each = go (bytes_eq name f.name) where
-  go : (b : Bool) → ArePlaced (option_map_or (λ (x : Format). x.fields) (cond b (Some f) (named (λ (x : Format). x.name) formats name)) [])
-  go true = each.0
-  go false = found_placed formats name each.1
+found_placed (f ∷ formats) name each = go (bytes_eq name f.name) (found_placed formats name each.1) where
+  go : (b : Bool) → ArePlaced (option_map_or (λ (x : Format). x.fields) (named (λ (x : Format). x.name) formats name) []) → ArePlaced (option_map_or (λ (x : Format). x.fields) (cond b (Some f) (named (λ (x : Format). x.name) formats name)) [])
+  go true ih = each.0
+  go false ih = ih
 
 -- the instruction as it begins
 abbrev Begun : ℕ → List ℕ → List FieldNumber → ℕ → ℕ → List Field → Instr

@@ -20,7 +20,7 @@ pub placed_more : (fields : List FieldNumber) (i : ℕ) (x : FieldNumber) (place
     → placed ++ fields_said (drop i fields) ≡ fields_said fields → low ≡ sum_by (λ (f : FieldNumber). f.number) (drop (i + 1) fields)
     → (placed ++ record { name = x.field; width = x.number; low = low } ∷ []) ++ fields_said (drop (i + 1) fields) ≡ fields_said fields
 placed_more fields i x placed low lt at so_far under =
-    let rest : drop i fields ≡ x ∷ drop (i + 1) fields = drop-cons fields i x ∙ ap (λ y. y ∷ drop (suc i) fields) (sym at) ∙ ap (λ n. x ∷ drop n fields) (sym (add-one i)) in
+    let rest : drop i fields ≡ x ∷ drop (i + 1) fields = drop-cons fields i x lt ∙ ap (λ y. y ∷ drop (suc i) fields) (sym at) ∙ ap (λ n. x ∷ drop n fields) (sym (add-one i)) in
     let width : low ≡ sum_by (λ (y : Field). y.width) (fields_said (drop (i + 1) fields)) = under ∙ sym (widths_said (drop (i + 1) fields)) in
     append_assoc placed (record { name = x.field; width = x.number; low = low } ∷ []) (fields_said (drop (i + 1) fields))
     ∙ ap (λ n. placed ++ record { name = x.field; width = x.number; low = n } ∷ fields_said (drop (i + 1) fields)) width

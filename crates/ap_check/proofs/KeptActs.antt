@@ -71,7 +71,7 @@ kept_bits : (design : Design) (stage bits : ℕ) → (not (is_stage design.stage
 kept_bits design stage bits e = kept_width bits (not-false (is_width bits) (or_parts (not (is_stage design.stages stage)) (not (is_width bits)) e).1)
 
 -- of a slice without fault
-slice_parts : (high low width : ℕ) → (nat_lt high low || not (nat_lt high width)) ≡ false → (low ≤ high) × (high < width)
+pub slice_parts : (high low width : ℕ) → (nat_lt high low || not (nat_lt high width)) ≡ false → (low ≤ high) × (high < width)
 slice_parts high low width e =
     let parts = or_parts (nat_lt high low) (not (nat_lt high width)) e in
     (ltb-false high low parts.0, ltb-true high width (not-false (nat_lt high width) parts.1))

@@ -107,30 +107,26 @@ kept_width bits e = grind (arith, nat_tests)
 narrow_slice : (high low width : ℕ) → width < 4294967296 → (nat_lt (narrowed high) (narrowed low) || not (nat_lt (narrowed high) width)) ≡ (nat_lt high low || not (nat_lt high width))
 narrow_slice high low width small = grind (arith, nat_tests)
 
+-- what comes after a range that is wrong
+past_range : (b : Bool) (p q : Option Fault) → (if (b || true) then Some f.Range else p) ≡ (if (b || true) then Some f.Range else q)
+past_range true p q = refl
+past_range false p q = refl
+
 -- the first fault of a line stays with its numbers in 32 bits
 pub narrow_fault : (design : Design) (width : Arg → ℕ) (stage : ℕ) (a : Act) → AreNarrow design width a → line_fault design width stage (narrowed_act a) ≡ line_fault design width stage a
 unfolding first_width_fault
 narrow_fault design width stage (act.Const bits value) narrow = go (is_width bits) refl where
   go : (b : Bool) → is_width bits ≡ b → line_fault design width stage (act.Const (narrowed bits) value) ≡ line_fault design width stage (act.Const bits value)
   go true e = ap (λ n. line_fault design width stage (act.Const n value)) (kept_width bits e)
-  go false e = let same : is_width (narrowed bits) ≡ false = narrow_width bits ∙ e in rw (same, e) (or_true (not (is_stage design.stages stage)))
-  or_true : (b : Bool) → (if (b || true) then Some f.Range else (if not (has_bits (narrowed bits) value) then Some f.TooWideConstant else None)) ≡ (if (b || true) then Some f.Range else (if not (has_bits bits value) then Some f.TooWideConstant else None))
-  or_true true = refl
-  or_true false = refl
+  go false e = let same : is_width (narrowed bits) ≡ false = narrow_width bits ∙ e in rw (same, e) (past_range (not (is_stage design.stages stage)) _ _)
 narrow_fault design width stage (act.Zext bits a) narrow = go (is_width bits) refl where
   go : (b : Bool) → is_width bits ≡ b → line_fault design width stage (act.Zext (narrowed bits) a) ≡ line_fault design width stage (act.Zext bits a)
   go true e = ap (λ n. line_fault design width stage (act.Zext n a)) (kept_width bits e)
-  go false e = let same : is_width (narrowed bits) ≡ false = narrow_width bits ∙ e in rw (same, e) (or_true (not (is_stage design.stages stage)))
-  or_true : (b : Bool) → (if (b || true) then Some f.Range else (if nat_lt (narrowed bits) (width a) then Some f.Differs else None)) ≡ (if (b || true) then Some f.Range else (if nat_lt bits (width a) then Some f.Differs else None))
-  or_true true = refl
-  or_true false = refl
+  go false e = let same : is_width (narrowed bits) ≡ false = narrow_width bits ∙ e in rw (same, e) (past_range (not (is_stage design.stages stage)) _ _)
 narrow_fault design width stage (act.Sext bits a) narrow = go (is_width bits) refl where
   go : (b : Bool) → is_width bits ≡ b → line_fault design width stage (act.Sext (narrowed bits) a) ≡ line_fault design width stage (act.Sext bits a)
   go true e = ap (λ n. line_fault design width stage (act.Sext n a)) (kept_width bits e)
-  go false e = let same : is_width (narrowed bits) ≡ false = narrow_width bits ∙ e in rw (same, e) (or_true (not (is_stage design.stages stage)))
-  or_true : (b : Bool) → (if (b || true) then Some f.Range else (if nat_lt (narrowed bits) (width a) then Some f.Differs else None)) ≡ (if (b || true) then Some f.Range else (if nat_lt bits (width a) then Some f.Differs else None))
-  or_true true = refl
-  or_true false = refl
+  go false e = let same : is_width (narrowed bits) ≡ false = narrow_width bits ∙ e in rw (same, e) (past_range (not (is_stage design.stages stage)) _ _)
 narrow_fault design width stage (act.Slice high low a) narrow =
     ap (λ b. first_width_fault (not (is_stage design.stages stage) || false) false b false false false false) (narrow_slice high low (width a) narrow)
 narrow_fault design width stage _ narrow = refl

@@ -32,6 +32,7 @@ use Rattle.ap_check.specs.Names.{with_name}
 use Rattle.ap_check.specs.Tables.{first_name_fault, is_local_taken, is_part, is_twice, is_unknown, is_without, name_fault}
 use Rattle.ap_check.specs.Uses.{declared_with, use_of, with_assigned}
 use Rattle.ap_check.specs.declared.declared.Declared.{Declared}
+use Rattle.ap_check.specs.declared.declared.Ports.{Ports}
 use Rattle.ap_check.specs.declared.uses.Use.{Use}
 use Rattle.ap_check.proofs.NameLists.{at_place, named_there, with_new}
 
@@ -85,9 +86,10 @@ module _ (cards : List Card) (scope : Scope) (place : Option ℕ) (begun : IsOpe
 
   file_grown : (name : List ℕ) (width cells reads writes : ℕ) → IsClean (s.File name width cells reads writes) → Grown (s.File name width cells reads writes)
   file_grown name width cells reads writes clean =
-      let file = record { name = name; width = width; cells = cells; reads = reads; writes = writes } in
+      let file : File = record { name = name; width = width; cells = cells; reads = reads; writes = writes } in
+      let own : Ports = record { reads = reads; writes = writes } in
       record {
-        tables = ap (λ names. record d { files = names; ports = d.ports ++ record { reads = reads; writes = writes } ∷ [] }) (grown (λ (f : File). f.name) scope.design.files file (parts_new name clean.1).1)
+        tables = ap (λ names. record d { files = names; ports = d.ports ++ own ∷ [] }) (grown (λ (f : File). f.name) scope.design.files file (parts_new name clean.1).1)
             ∙ ap (λ ports. record d { files = map (λ (f : File). f.name) (scope.design.files ++ file ∷ []); ports = ports }) (sym (map-append ports_of scope.design.files (file ∷ [])));
         fields = begun;
         kinds = kinds;

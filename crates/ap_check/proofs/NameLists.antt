@@ -72,20 +72,21 @@ differ_back a b e = false_from_ne_true (bytes_eq b a) (λ same. both_ways (bytes
 pub among_append : (name : List ℕ) (xs ys : List (List ℕ)) → is_among name (xs ++ ys) ≡ (is_among name xs || is_among name ys)
 among_append name xs ys = list_any-append (bytes_eq name) xs ys
 
+and_last : (a b : Bool) → b ≡ false → (a && b) ≡ false
+and_last true b e = e
+and_last false b e = refl
+
 -- a name that stood before it
 pub twice_then : (xs : List (List ℕ)) (name : List ℕ) (ys : List (List ℕ)) → is_among name xs ≡ true → are_distinct (xs ++ name ∷ ys) ≡ false
 twice_then [] name ys e = absurd cc
-twice_then (x ∷ xs) name ys e = go (bytes_eq name x) refl where
-  go : (b : Bool) → bytes_eq name x ≡ b → (not (is_among x (xs ++ name ∷ ys)) && are_distinct (xs ++ name ∷ ys)) ≡ false
-  go true same =
+twice_then (x ∷ xs) name ys e = go (bytes_eq name x) refl (twice_then xs name ys) where
+  go : (b : Bool) → bytes_eq name x ≡ b → (is_among name xs ≡ true → are_distinct (xs ++ name ∷ ys) ≡ false) → (not (is_among x (xs ++ name ∷ ys)) && are_distinct (xs ++ name ∷ ys)) ≡ false
+  go true same ih =
       let there : is_among x (xs ++ name ∷ ys) ≡ true = among_append x xs (name ∷ ys) ∙ or_second (is_among x xs) (bytes_eq x name || is_among x ys) (or_first (bytes_eq x name) (is_among x ys) (same_back name x same)) in
       rw there refl
-  go false other =
+  go false other ih =
       let later : is_among name xs ≡ true = rw other at e in
-      rw (twice_then xs name ys later) (and_none (not (is_among x (xs ++ name ∷ ys))))
-  and_none : (b : Bool) → (b && false) ≡ false
-  and_none true = refl
-  and_none false = refl
+      and_last (not (is_among x (xs ++ name ∷ ys))) (are_distinct (xs ++ name ∷ ys)) (ih later)
 
 -- one more that none of them is
 pub distinct_last : (xs : List (List ℕ)) (name : List ℕ) → are_distinct xs ≡ true → is_among name xs ≡ false → are_distinct (xs ++ name ∷ []) ≡ true
@@ -143,24 +144,26 @@ names_more all i name names after distinct at so_far e =
 -- the kind of a name
 pub kind_from : (name : List ℕ) (k : ℕ) (cards : List Card) (i : ℕ) → position_from (λ (c : Card). bytes_eq c.name name) k cards ≡ Some i → (is_among name (kind_names cards) ≡ true) × (i ≡ k + place_of (kind_names cards) name)
 kind_from name k [] i e = absurd cc
-kind_from name k (c ∷ cards) i e = go (bytes_eq c.name name) refl where
-  go : (b : Bool) → bytes_eq c.name name ≡ b → ((bytes_eq name c.name || is_among name (kind_names cards)) ≡ true) × (i ≡ k + cond (not (bytes_eq name c.name)) (1 + place_of (kind_names cards) name) 0)
-  go true same =
+kind_from name k (c ∷ cards) i e = go (bytes_eq c.name name) refl (kind_from name (k + 1) cards i) where
+  go : (b : Bool) → bytes_eq c.name name ≡ b
+      → (position_from (λ (x : Card). bytes_eq x.name name) (k + 1) cards ≡ Some i → (is_among name (kind_names cards) ≡ true) × (i ≡ (k + 1) + place_of (kind_names cards) name))
+      → ((bytes_eq name c.name || is_among name (kind_names cards)) ≡ true) × (i ≡ k + cond (not (bytes_eq name c.name)) (1 + place_of (kind_names cards) name) 0)
+  go true same ih =
       let here : bytes_eq name c.name ≡ true = same_back c.name name same in
       let at : Some k ≡ Some i = rw same at e in
       let first : i ≡ k = cc in
       rw here (refl, omega arith)
-  go false other =
+  go false other ih =
       let out : bytes_eq name c.name ≡ false = differ_back c.name name other in
-      let later = kind_from name (k + 1) cards i (rw other at e) in
+      let later = ih (rw other at e) in
       rw out (later.0, omega (arith, later.1))
 
 pub no_kind_from : (name : List ℕ) (k : ℕ) (cards : List Card) → position_from (λ (c : Card). bytes_eq c.name name) k cards ≡ None → is_among name (kind_names cards) ≡ false
 no_kind_from name k [] e = refl
-no_kind_from name k (c ∷ cards) e = go (bytes_eq c.name name) refl where
-  go : (b : Bool) → bytes_eq c.name name ≡ b → (bytes_eq name c.name || is_among name (kind_names cards)) ≡ false
-  go true same = let at : Some k ≡ None = rw same at e in absurd cc
-  go false other = or_neither (bytes_eq name c.name) (is_among name (kind_names cards)) (differ_back c.name name other) (no_kind_from name (k + 1) cards (rw other at e))
+no_kind_from name k (c ∷ cards) e = go (bytes_eq c.name name) refl (no_kind_from name (k + 1) cards) where
+  go : (b : Bool) → bytes_eq c.name name ≡ b → (position_from (λ (x : Card). bytes_eq x.name name) (k + 1) cards ≡ None → is_among name (kind_names cards) ≡ false) → (bytes_eq name c.name || is_among name (kind_names cards)) ≡ false
+  go true same ih = let at : Some k ≡ None = rw same at e in absurd cc
+  go false other ih = or_neither (bytes_eq name c.name) (is_among name (kind_names cards)) (differ_back c.name name other) (ih (rw other at e))
 
 -- at its place stands the first of the name
 pub at_place : {X : Type 0} (name_of : X → List ℕ) (xs : List X) (name : List ℕ) → slice_get xs (place_of (map name_of xs) name) ≡ named name_of xs name
@@ -192,7 +195,7 @@ named_there {X} name_of (x ∷ xs) name e = go (bytes_eq name (name_of x)) refl 
 -- what holds of all holds of the one that is found
 pub named_all : {X : Type 0} (test : X → Bool) (name_of : X → List ℕ) (xs : List X) (name : List ℕ) (x : X) → list_all test xs ≡ true → named name_of xs name ≡ Some x → test x ≡ true
 named_all test name_of [] name x all e = absurd cc
-named_all test name_of (y ∷ xs) name x all e = go (bytes_eq name (name_of y)) refl where
-  go : (b : Bool) → bytes_eq name (name_of y) ≡ b → test x ≡ true
-  go true same = let at : Some y ≡ Some x = rw same at e in let here : y ≡ x = cc in subst (λ z. test z ≡ true) here (and_parts (test y) (list_all test xs) all).0
-  go false other = named_all test name_of xs name x (and_parts (test y) (list_all test xs) all).1 (rw other at e)
+named_all test name_of (y ∷ xs) name x all e = go (bytes_eq name (name_of y)) refl (named_all test name_of xs name x (and_parts (test y) (list_all test xs) all).1) where
+  go : (b : Bool) → bytes_eq name (name_of y) ≡ b → (named name_of xs name ≡ Some x → test x ≡ true) → test x ≡ true
+  go true same ih = let at : Some y ≡ Some x = rw same at e in let here : y ≡ x = cc in subst (λ z. test z ≡ true) here (and_parts (test y) (list_all test xs) all).0
+  go false other ih = ih (rw other at e)

@@ -45,6 +45,10 @@ get_map f (x ∷ xs) (suc i) = get_map f xs i
 pub got_named : {X Y : Type 0} (f : X → Y) (name_of : X → List ℕ) (xs : List X) (name : List ℕ) → slice_get (map f xs) (place_of (map name_of xs) name) ≡ option_map f (named name_of xs name)
 got_named f name_of xs name = get_map f xs (place_of (map name_of xs) name) ∙ ap (option_map f) (at_place name_of xs name)
 
+fields_mapped : (o : Option Format) → option_map (λ (f : Format). names_of_fields f.fields) o ≡ option_map names_of_fields (option_map (λ (f : Format). f.fields) o)
+fields_mapped None = refl
+fields_mapped (Some f) = refl
+
 among_reverse : (name : List ℕ) (xs : List (List ℕ)) → is_among name (reverse xs) ≡ is_among name xs
 among_reverse name [] = refl
 among_reverse name (x ∷ xs) = ap (is_among name) (reverse-append (x ∷ []) xs) ∙ among_append name (reverse xs) (x ∷ []) ∙ swap (is_among name (reverse xs)) (bytes_eq name x) ∙ ap (λ c. bytes_eq name x || c) (among_reverse name xs) where
@@ -64,10 +68,7 @@ module _ (cards : List Card) (scope : Scope) (place : Option ℕ) (begun : IsOpe
     go : (o : Option ℕ) → IsOpen scope.design.formats scope.fields o → option_map_or (names_at (map (λ (f : Format). names_of_fields f.fields) scope.design.formats)) o [] ≡ names_of_fields scope.fields
     go None h = sym (ap names_of_fields h)
     go (Some i) h =
-        ap (λ o. option_map_or (λ (names : List (List ℕ)). names) o []) (get_map (λ (f : Format). names_of_fields f.fields) scope.design.formats i ∙ twice (slice_get scope.design.formats i) ∙ ap (option_map names_of_fields) h)
-    twice : (o : Option Format) → option_map (λ (f : Format). names_of_fields f.fields) o ≡ option_map names_of_fields (option_map (λ (f : Format). f.fields) o)
-    twice None = refl
-    twice (Some f) = refl
+        ap (λ o. option_map_or (λ (names : List (List ℕ)). names) o []) (get_map (λ (f : Format). names_of_fields f.fields) scope.design.formats i ∙ fields_mapped (slice_get scope.design.formats i) ∙ ap (option_map names_of_fields) h)
 
   pub operand_same : (word : Word) → is_no_operand d word ≡ n.is_no_operand scope word
   operand_same Pc = refl

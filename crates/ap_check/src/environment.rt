@@ -137,7 +137,10 @@ impl Environment {
         if let Some(refusal) = self.noted {
             return Err(DescFault::Refused(refusal));
         }
-        self.draft.close()?;
+        match self.draft.close() {
+            Ok(()) => {}
+            Err(_) => return Err(DescFault::NoMemory),
+        }
         let Environment { noted: _, declared: _, draft } = self;
         let Draft { design, begun: _ } = draft;
         Ok(design)

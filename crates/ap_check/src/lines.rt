@@ -24,6 +24,7 @@ impl Draft {
     ghost use Rattle.ap_check.specs.Drafts.{AreNarrow, draft_fields, draft_widths, line_fault, local_in, width_in, with_line};
     ghost use Rattle.ap_check.specs.Numbers.{narrowed};
     ghost use Rattle.ap_check.specs.Uses.{IsStoppedBy};
+    ghost use Rattle.ap_desc.specs.declared.design.File.{File as DeclaredFile};
     ghost use Rattle.ap_desc.specs.declared.design.InPort.{InPort as DeclaredInPort};
 
     /// The width of a unit.
@@ -37,6 +38,18 @@ impl Draft {
         ensures { result ≡ w.file_width self.now.design file }
     {
         at!(self.design.files, file, width)
+    }
+
+    fn file_reads(&self, file: u32) -> u32
+        ensures { result ≡ width_at (λ (f : DeclaredFile). f.reads) self.now.design.files file }
+    {
+        at!(self.design.files, file, reads)
+    }
+
+    fn file_writes(&self, file: u32) -> u32
+        ensures { result ≡ width_at (λ (f : DeclaredFile). f.writes) self.now.design.files file }
+    {
+        at!(self.design.files, file, writes)
     }
 
     /// Whether so many bits number the file's cells.
@@ -216,10 +229,10 @@ impl Draft {
                 let _width = self.width(a);
             }
             Act::ReadFile { file, .. } => {
-                let _reads = at!(self.design.files, file, reads);
+                let _reads = self.file_reads(file);
             }
             Act::WriteFile { file, .. } => {
-                let _writes = at!(self.design.files, file, writes);
+                let _writes = self.file_writes(file);
             }
             _ => {}
         }

@@ -199,6 +199,7 @@ impl Declared {
     }
 
     /// What a statement uses, or its first fault of names.
+    #[tactic(auto, using(crate::proofs::FirstFaults::first_faults))]
     pub(crate) fn uses(
         &self,
         alloc: Global,

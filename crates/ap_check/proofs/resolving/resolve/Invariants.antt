@@ -5,4 +5,4 @@ use Rattle.ap_check.proofs.resolving.resolve.Given as goal
 
 -- the environment knows the statements so far
 abbrev pub invariant-loop-n : goal.invariant-loop-n
-invariant-loop-n g l = Knows (cards_of (goal.UnitKind-dyn g l.shelf).card l.shelf) l.n-items (take l.n-index l.n-items) l.environment
+invariant-loop-n g l = Knows (cards_of (λ x. (goal.UnitKind-dyn g x).card x.1) l.shelf) l.n-items (take l.n-index l.n-items) l.environment
