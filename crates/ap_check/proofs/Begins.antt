@@ -90,14 +90,13 @@ instr_step cards statements before line name format fixed place old new (Ok done
     let e : record old.design { instrs = [] } ≡ all = knows.declares ∙ whole in
     let word : old.design.word ≡ all.word = ap (λ (d : Design). d.word) e in
     let small : all.word ≤ 64 = subst (λ w. w ≤ 64) word knows.narrow in
-    let cut : min old.design.word 64 ≡ all.word = let kept : min old.design.word 64 ≡ old.design.word = let low = knows.narrow in omega arith in kept ∙ word in
     let here : place ≡ place_of (format_names all) format = at ∙ ap (λ (d : Design). place_of (format_names d) format) whole in
     let fields : fields_at old place ≡ fields_named all format =
       ap (λ (d : Design). option_map_or (λ (f : Format). f.fields) (slice_get d.formats place) []) e
       ∙ ap (λ p. option_map_or (λ (f : Format). f.fields) (slice_get all.formats p) []) here
       ∙ ap (λ o. option_map_or (λ (f : Format). f.fields) o []) (at_place (λ (f : Format). f.name) all.formats format) in
-    let instr : Begun line name fixed (min old.design.word 64) place (fields_at old place) ≡ instr_of cards all block =
-      ap (λ w. Begun line name fixed w place (fields_at old place)) cut
+    let instr : Begun line name fixed old.design.word place (fields_at old place) ≡ instr_of cards all block =
+      ap (λ w. Begun line name fixed w place (fields_at old place)) word
       ∙ ap (λ p. Begun line name fixed all.word p (fields_at old place)) here
       ∙ ap (Begun line name fixed all.word (place_of (format_names all) format)) fields
       ∙ begun_whole cards all line name format fixed small (found_placed all.formats format (all_placed statements)) in

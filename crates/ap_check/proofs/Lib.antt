@@ -1,5 +1,6 @@
 pub mod Begins
 pub mod DraftLines
+pub mod FewFields
 pub mod FieldLists
 pub mod Finished
 pub mod FirstFaults

@@ -16,12 +16,11 @@ use Rattle.ap_check.proofs.FirstFaults.{no_kind_first, no_name_fault, not_broken
 use Rattle.ap_check.proofs.NameLists.{kind_from, no_kind_from}
 
 pub unit_found : (cards : List Card) (d : Declared) (name kind text : List ℕ) (place : ℕ) → text ≡ kind → Some place ≡ position_from (λ (c : Card). bytes_eq c.name text) 0 cards → is_part d name ≡ false
-    → (name_fault cards d (s.Unit name kind 0) ≡ None) × (u.Kind place ≡ use_of cards d (s.Unit name kind 0))
+    → (name_fault cards d (s.Unit name kind 0) ≡ None) × (u.Nothing ≡ use_of cards d (s.Unit name kind 0))
 unit_found cards d name kind text place same found new =
     let at = kind_from text 0 cards place (sym found) in
     let there : is_among kind (kind_names cards) ≡ true = subst (λ t. is_among t (kind_names cards) ≡ true) same at.0 in
-    let here : place ≡ place_of (kind_names cards) kind = let first : place ≡ place_of (kind_names cards) text = omega (arith, at.1) in first ∙ ap (place_of (kind_names cards)) same in
-    (no_name_fault false (is_part d name) (not (is_among kind (kind_names cards))) false refl new (not_kept (is_among kind (kind_names cards)) there) refl, ap u.Kind here)
+    (no_name_fault false (is_part d name) (not (is_among kind (kind_names cards))) false refl new (not_kept (is_among kind (kind_names cards)) there) refl, refl)
 
 pub unit_missing : (cards : List Card) (d : Declared) (name kind text : List ℕ) → text ≡ kind → None ≡ position_from (λ (c : Card). bytes_eq c.name text) 0 cards → is_part d name ≡ false
     → name_fault cards d (s.Unit name kind 0) ≡ Some f.NoKind

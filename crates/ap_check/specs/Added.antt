@@ -1,11 +1,12 @@
 -- What a statement adds to the design of a draft.
-use Rattle.std.specs.Prelude.{◌≡◌, ℕ, ◌<◌, List, None, Result, MatchResult}
+use Rattle.std.specs.Prelude.{◌≡◌, ℕ, ◌<◌, ◌≤◌, List, length, None, Result, MatchResult}
 use Rattle.ap_bits.specs.declared.card.Card.{Card}
 use Rattle.ap_desc.specs.declared.design.Act.{Act}
 use Rattle.ap_desc.specs.declared.statement.FieldNumber.{FieldNumber}
 use Rattle.ap_desc.specs.declared.statement.Statement.{Statement}
 use Rattle.ap_desc.specs.declared.statement.Statement.TheVariants as s
 use Rattle.ap_desc.specs.Instructions.{stage_of}
+use Rattle.ap_desc.specs.Limits.{max_fields}
 use Rattle.ap_desc.specs.Spelling.{field_names}
 use Rattle.ap_check.specs.Drafts.{AreNarrow, IsSaid, line_fault, width_in, with_instr, with_line}
 use Rattle.ap_check.specs.Numbers.{narrowed}
@@ -19,6 +20,11 @@ use Rattle.ap_check.specs.declared.uses.Use.TheVariants as u
 abbrev pub HasFixed : Statement → Use → Type 0
 HasFixed (s.Instr name format fixed) (u.Format i names) = names ≡ field_names fixed
 HasFixed statement used = Unit {0}
+
+-- a format has no more fields than it may
+abbrev pub HasFewFields : Statement → Type 0
+HasFewFields (s.Format name fields) = length fields ≤ max_fields
+HasFewFields statement = Unit {0}
 
 -- a line adds what it does, or is stopped by its first fault of widths; the numbers that its own are compared with have 32 bits
 pub record IsLineAddedAs (line : ℕ) (old : Draft) (statement : Statement) (a : Act) (new : Draft) (result : Result (Unit {0}) Stop) : Type 0 where

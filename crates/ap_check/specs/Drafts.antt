@@ -115,8 +115,8 @@ with_instr draft line name format fixed = record draft {
     line = line;
     format = format;
     fixed = map (fixed_of fixed) (fields_at draft format);
-    fixed_mask = min (sum_by (mask_of (min draft.design.word 64) fixed) (fields_at draft format)) 18446744073709551615;
-    fixed_value = min (sum_by (value_of (min draft.design.word 64) fixed) (fields_at draft format)) 18446744073709551615;
+    fixed_mask = min (sum_by (mask_of draft.design.word fixed) (fields_at draft format)) 18446744073709551615;
+    fixed_value = min (sum_by (value_of draft.design.word fixed) (fields_at draft format)) 18446744073709551615;
     locals = [];
     micros = [];
   });

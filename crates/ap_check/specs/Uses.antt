@@ -7,7 +7,7 @@ use Rattle.ap_desc.specs.declared.fault.Fault.{Fault}
 use Rattle.ap_desc.specs.declared.statement.Statement.{Statement}
 use Rattle.ap_desc.specs.declared.statement.Statement.TheVariants as s
 use Rattle.ap_desc.specs.Instructions.{assigned_name}
-use Rattle.ap_desc.specs.Parts.{card_named, kind_names, place_of}
+use Rattle.ap_desc.specs.Parts.{card_named, place_of}
 use Rattle.ap_desc.specs.Spelling.{field_names}
 use Rattle.ap_check.specs.Names.{with_name}
 use Rattle.ap_check.specs.Tables.{line_act, name_fault}
@@ -24,7 +24,6 @@ IsStoppedBy fault stop.NoMemory = Unit {0}
 
 -- what a statement uses
 abbrev pub use_of : List Card → Declared → Statement → Use
-use_of cards d (s.Unit name kind width) = u.Kind (place_of (kind_names cards) kind)
 use_of cards d (s.Format name fields) = u.Fields (field_names fields)
 use_of cards d (s.Instr name format fixed) = u.Format (place_of d.formats format) (field_names fixed)
 use_of cards d statement = option_map_or u.Line (line_act d statement) u.Nothing

@@ -1,5 +1,5 @@
 //! What each sort of statement adds to the design.
-ghost use Rattle.std.specs.Prelude.{◌≡◌, false};
+ghost use Rattle.std.specs.Prelude.{◌≡◌, ◌≤◌, false};
 ghost use Rattle.ap_desc.specs.NameFaults.{is_missing, is_no_kind};
 ghost use Rattle.ap_desc.specs.Parts.{kind_names};
 ghost use Rattle.ap_desc.specs.Instructions as instructions;
@@ -38,7 +38,7 @@ fn stage_of(statement: &Statement) -> u64
 
 impl Draft {
     ghost use Rattle.ap_bits.specs.declared.card.Card.{Card};
-    ghost use Rattle.ap_check.specs.Added.{HasFixed, IsAdded, IsInstrAdded, IsLineAdded};
+    ghost use Rattle.ap_check.specs.Added.{HasFewFields, HasFixed, IsAdded, IsInstrAdded, IsLineAdded};
     ghost use Rattle.ap_check.specs.Drafts.{IsSaid};
     ghost use Rattle.ap_desc.specs.Spelling.{field_names};
     ghost use Rattle.ap_desc.specs.declared.statement.Statement.TheVariants as s;
@@ -73,7 +73,8 @@ impl Draft {
         fixed: &[FieldNumber],
         used: &Use,
     ) -> Result<(), Stop>
-        requires { HasFixed (s.Instr name.now format.now fixed.now) used.now }
+        requires word { self.old.design.word ≤ 64 }
+        requires fixed { HasFixed (s.Instr name.now format.now fixed.now) used.now }
         ensures { IsInstrAdded line self.old name.now fixed.now used.now self.new result }
     {
         match used {
@@ -104,6 +105,8 @@ impl Draft {
         n: &Numbered,
         used: &Use,
     ) -> Result<(), Stop>
+        requires word { self.old.design.word ≤ 64 }
+        requires few { HasFewFields n.now.statement }
         requires fixed { HasFixed n.now.statement used.now }
         requires kind { is_no_kind (cards_of card shelf.now) n.now.statement ≡ false }
         ensures { IsAdded (cards_of card shelf.now) n.now.line self.old n.now.statement

@@ -1,5 +1,5 @@
 //! The design that a description means, as far as its statements have come: what each declares and needs.
-ghost use Rattle.std.specs.Prelude.{◌≡◌, ◌<◌, IfErr, IfOk, None, OnOk, [], false, true};
+ghost use Rattle.std.specs.Prelude.{◌≡◌, ◌<◌, ◌≤◌, length, IfErr, IfOk, None, OnOk, [], false, true};
 ghost use Rattle.ap_desc.specs.Designs.{is_between};
 ghost use Rattle.ap_desc.specs.Designs as designs;
 
@@ -73,6 +73,7 @@ fn cell_count(cells: u64) -> Result<u32, Fault>
 
 impl Draft {
     ghost use Rattle.ap_check.specs.Drafts.{IsSaid, IsUnitSaid, completed, fields_at, with_instr};
+    ghost use Rattle.ap_desc.specs.Limits.{max_fields};
     ghost use Rattle.ap_desc.specs.Spelling.{field_names};
     ghost use Rattle.ap_desc.specs.declared.statement.Statement.TheVariants as s;
 
@@ -268,6 +269,8 @@ impl Draft {
         name: &Name,
         fields: &[FieldNumber],
     ) -> Result<(), Stop>
+        requires word { self.old.design.word ≤ 64 }
+        requires few { length fields.now ≤ max_fields }
         ensures { IsSaid [] line self.old (s.Format name.now fields.now) self.new result }
     {
         if has_wrong_field(self.design.word, fields) {
@@ -300,10 +303,11 @@ impl Draft {
         names: &Names,
         fixed: &[FieldNumber],
     ) -> Result<(), NoMemory>
-        requires { names.now ≡ field_names fixed.now }
+        requires word { self.old.design.word ≤ 64 }
+        requires names { names.now ≡ field_names fixed.now }
         ensures { OnOk result (self.new ≡ with_instr self.old line name.now format fixed.now) }
     {
-        let word = self.design.word.min(64);
+        let word = self.design.word;
         let fields = self.fields_at(format);
         let values = fixed_values(alloc, fields, names, fixed)?;
         let fixed_mask = fixed_mask(word, fields, names, fixed);

@@ -1,5 +1,5 @@
 //! What the statements so far declare and describe, and what one more statement does there.
-ghost use Rattle.std.specs.Prelude.{◌≡◌, IfErr, IfOk, List, None, OnOk, Some, []};
+ghost use Rattle.std.specs.Prelude.{◌≡◌, ◌≤◌, IfErr, IfOk, List, None, OnOk, Some, []};
 ghost use Rattle.ap_desc.specs.FaultTable.{phase_of};
 
 use crate::declared::Declared;
@@ -36,7 +36,7 @@ fn refusal(line: u32, kind: Fault) -> Refusal
 
 impl Environment {
     ghost use Rattle.ap_bits.specs.declared.card.Card.{Card};
-    ghost use Rattle.ap_check.specs.Added.{HasFixed};
+    ghost use Rattle.ap_check.specs.Added.{HasFewFields, HasFixed};
     ghost use Rattle.ap_check.specs.Drafts.{completed};
     ghost use Rattle.ap_check.specs.Tables.{name_fault};
     ghost use Rattle.ap_check.specs.Taking.{IsDescribedAfter, IsRefusedAt};
@@ -87,6 +87,8 @@ impl Environment {
         n: &Numbered,
         used: &Use,
     ) -> Result<(), NoMemory>
+        requires word { self.old.noted ≡ None → self.old.draft.design.word ≤ 64 }
+        requires few { HasFewFields n.now.statement }
         requires fixed { HasFixed n.now.statement used.now }
         requires kind { is_no_kind (cards_of card shelf.now) n.now.statement ≡ false }
         ensures declared { OnOk result (self.new.declared ≡ self.old.declared) }
@@ -115,6 +117,8 @@ impl Environment {
         shelf: &Shelf,
         n: &Numbered,
     ) -> Result<(), DescFault>
+        requires word { self.old.noted ≡ None → self.old.draft.design.word ≤ 64 }
+        requires few { HasFewFields n.now.statement }
         ensures { (statements before after : List DeclaredNumbered) → IsDescription statements
             → statements ≡ before ++ n.now ∷ after
             → Knows (cards_of card shelf.now) statements before self.old

@@ -1,6 +1,6 @@
 //! The fields of formats, and what an instruction fixes of them.
-ghost use Rattle.std.specs.Prelude.{◌≡◌, ◌≤◌, IfOk, min, sum_by, map, not};
-ghost use Rattle.ap_check.specs.FixedBits.{mask_of, value_of};
+ghost use Rattle.std.specs.Prelude.{◌≡◌, ◌^◌, ◌<◌, ◌≤◌, IfOk, min, sum_by, map, not};
+ghost use Rattle.ap_check.specs.FixedBits.{field_bits, mask_of, value_of};
 ghost use Rattle.std.specs.List.{list_any};
 ghost use Rattle.ap_desc.specs.Declarations.{fields_said};
 ghost use Rattle.ap_desc.specs.Designs as designs;
@@ -9,7 +9,7 @@ ghost use Rattle.ap_desc.specs.Spelling.{field_names};
 ghost use Rattle.ap_desc.specs.declared.statement.FieldNumber.{FieldNumber as DeclaredFieldNumber};
 
 use crate::names::Names;
-use crate::numbers::is_field_width;
+use crate::numbers::{is_field_width, narrow};
 use ap_bits::{Items, NoMemory, mask};
 use ap_desc::FieldNumber;
 use ap_desc::design::Field;
@@ -23,42 +23,32 @@ pub(crate) fn has_wrong_field(word: u32, fields: &[FieldNumber]) -> bool
     fields.iter().any(|f| !is_field_width(word, f.number))
 }
 
-/// The number in 32 bits. A design's numbers have no more, so where it has there is no memory for it.
-fn small(number: u64) -> Result<u32, NoMemory>
-    ensures { IfOk result (λ n. n ≡ number) }
-{
-    if number <= u64::from(u32::MAX) {
-        Ok(number as u32)
-    } else {
-        Err(NoMemory)
-    }
-}
-
-/// The sum of the widths of fields.
+/// The sum of the widths of fields, which has 32 bits.
 #[tactic(auto, using(crate::proofs::FieldLists::field_sums))]
-fn total_width(fields: &[FieldNumber]) -> Result<u32, NoMemory>
-    ensures { IfOk result
-        (λ total. total ≡ sum_by (λ (f : DeclaredFieldNumber). f.number) fields.now) }
+fn total_width(fields: &[FieldNumber]) -> u32
+    requires { field_bits fields.now < 2 ^ 32 }
+    ensures { result ≡ field_bits fields.now }
 {
-    let mut total: u32 = 0;
+    let mut total: u64 = 0;
     for field in fields {
-        total = small(u64::from(total).saturating_add(field.number))?;
+        total = total.saturating_add(field.number);
     }
-    Ok(total)
+    narrow(total)
 }
 
-/// The fields of a format: each lies above those after it.
+/// The fields of a format: each lies above those after it. The sum of their widths has 32 bits.
 #[tactic(auto, using(crate::proofs::FieldLists::field_sums))]
 pub(crate) fn placed_fields(
     alloc: Global,
     fields: &[FieldNumber],
 ) -> Result<Items<Field>, NoMemory>
+    requires { field_bits fields.now < 2 ^ 32 }
     ensures { IfOk result (λ placed. placed ≡ fields_said fields.now) }
 {
-    let mut low = total_width(fields)?;
+    let mut low = total_width(fields);
     let mut placed = Items::new(alloc);
     for field in fields {
-        let width = small(field.number)?;
+        let width = field.number as u32;
         low -= width;
         let name = field.field.copy(alloc)?;
         placed.push(Field { name, width, low })?;

@@ -20,6 +20,3 @@ mod stop;
 mod uses;
 
 pub use resolving::resolve;
-
-#[cfg(test)]
-mod tests;

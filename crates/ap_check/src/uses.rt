@@ -25,8 +25,6 @@ use std::alloc::Global;
 pub(crate) enum Use {
     /// Nothing that is declared.
     Nothing,
-    /// The kind of a unit, by its place on the shelf.
-    Kind(u32),
     /// The names of the fields of a format.
     Fields(Names),
     /// The format of an instruction, and the names of the fields that it fixes.
@@ -127,7 +125,7 @@ impl Declared {
             return Err(Stop::Fault(Fault::Twice));
         }
         match shelf.find(kind.as_str()) {
-            Some(place) => Ok(Use::Kind(place as u32)),
+            Some(_) => Ok(Use::Nothing),
             None => Err(Stop::Fault(Fault::NoKind)),
         }
     }

@@ -1,107 +1,7 @@
-use crate::resolve;
-use ap_comb::{Alu, Avg, Count, Shift};
-use ap_desc::design::Design;
-use ap_desc::{DescFault, Description, Fault};
-use ap_mul::Mul;
-use ap_read::read;
-use ap_unit::{Shelf, UnitKind};
-use std::alloc::Global;
+use crate::calls::{fault_of, resolved};
+use crate::texts::{base, changed, larger};
+use ap_desc::Fault;
 use std::test::Fail;
-
-/// A description with every sort of statement; its lines are numbered from 1.
-fn base() -> &'static str {
-    "stages 4
-address 6
-word 16
-transfer 2 1
-reg R 16 65535
-reg ONE 1 0
-file F 16 8 2 1
-mem M 8 16
-in P 16
-unit U alu 16
-unit X mul 16
-format A op:4 rd:3 rs:3 imm:6
-format B op:4 wide:12
-instr NOP A op=0 rd=0 rs=0 imm=0
-end
-instr I A op=1 rd=7
-  1 a = F.r0 rs
-  1 i = sext 16 imm
-  1 p = in P
-  1 k = const 16 65535
-  1 g = ONE
-  2 s = U.add a i
-  2 x = slice 7 0 s
-  2 v = M.read x
-  2 m = X.mullo a v
-  2 z = zext 16 x
-  2 c = cat x x
-  3 F.w0 rd v when g
-  3 R <- c
-  3 M.write x m
-end
-instr J B op=2
-  1 a = R
-  1 g = slice 15 15 a
-  2 branch g pc
-  2 l = zext 16 link
-end
-instr K A op=3
-  2 jump imm
-end
-"
-}
-
-/// A shelf of five kinds.
-fn shelf(alloc: Global) -> Result<Shelf, Fail> {
-    let mut kinds: Vec<Box<dyn UnitKind>> = Vec::new(alloc);
-    kinds.push(Box::new(alloc, Alu)?)?;
-    kinds.push(Box::new(alloc, Shift)?)?;
-    kinds.push(Box::new(alloc, Count)?)?;
-    kinds.push(Box::new(alloc, Avg)?)?;
-    kinds.push(Box::new(alloc, Mul)?)?;
-    match Shelf::new(kinds) {
-        Ok(shelf) => Ok(shelf),
-        Err(_) => Err("two kinds have one name")?,
-    }
-}
-
-/// The text with another line, or several, in the place of the one of this number, counted from 1; 0 is none.
-fn changed(alloc: Global, text: &str, number: u32, line: &str) -> Result<String, Fail> {
-    let mut made = String::new(alloc);
-    let mut at: u32 = 0;
-    for old in text.lines() {
-        at = at.wrapping_add(1);
-        made.push_str(if at == number { line } else { old })?;
-        made.push_str("\n")?;
-    }
-    Ok(made)
-}
-
-fn description(alloc: Global, text: &str) -> Result<Description, Fail> {
-    match read(alloc, text.as_bytes()) {
-        Ok(description) => Ok(description),
-        Err(_) => Err("it isn't read")?,
-    }
-}
-
-/// What is answered for a text: its design or its fault, with the line.
-fn resolved(alloc: Global, text: &str) -> Result<Result<Design, (Fault, u32)>, Fail> {
-    let description = description(alloc, text)?;
-    match resolve(alloc, &description, &shelf(alloc)?) {
-        Ok(design) => Ok(Ok(design)),
-        Err(DescFault::Refused(refusal)) => Ok(Err((refusal.kind, refusal.line))),
-        Err(DescFault::NoMemory) => Err("no memory")?,
-    }
-}
-
-fn fault_of(alloc: Global, text: &str) -> Result<Option<(Fault, u32)>, Fail> {
-    match resolved(alloc, text)? {
-        Ok(_) => Ok(None),
-        Err(fault) => Ok(Some(fault)),
-    }
-}
 
 /// Lines that may stand in the place of another: at the edges of what names and widths allow.
 fn accepted_lines() -> [(u32, &'static str); 19] {
@@ -129,7 +29,7 @@ fn accepted_lines() -> [(u32, &'static str); 19] {
 }
 
 /// Lines with a fault of names. A local that may not be used on its own line, and one like any field of the format, a fixed one too.
-fn name_faults() -> [(u32, &'static str, Fault); 27] {
+fn name_faults() -> [(u32, &'static str, Fault); 29] {
     [
         (6, "reg R 1 0", Fault::Twice),
         (7, "file R 16 8 2 1", Fault::Twice),
@@ -156,6 +56,8 @@ fn name_faults() -> [(u32, &'static str, Fault); 27] {
         (22, "  2 s = U.mullo a i", Fault::NoOperation),
         (22, "  2 a = U.mullo a i", Fault::Twice),
         (22, "  2 s = F.add a i", Fault::Unknown),
+        (17, "  1 a = F.r0 rs rs", Fault::Unknown),
+        (24, "  2 v = M.read x x", Fault::Unknown),
         (28, "  3 F.w1 rd v when g", Fault::Unknown),
         (28, "  3 F.w0 rd v when h", Fault::Unknown),
     ]
@@ -234,8 +136,9 @@ fn names_faults_of_widths(rt: HostRuntime) -> Result<(), Fail> {
 }
 
 /// Of two changes the fault that is named: names are looked at before widths, a line before a later one, and ports as they are written.
-fn two_changes() -> [((u32, &'static str), (u32, &'static str), (Fault, u32)); 6] {
+fn two_changes() -> [((u32, &'static str), (u32, &'static str), (Fault, u32)); 7] {
     [
+        ((1, "stages 9"), (39, "  2 jump t"), (Fault::Unknown, 39)),
         ((5, "reg R 65 0"), (39, "  2 jump t"), (Fault::Unknown, 39)),
         ((5, "reg R 65 0"), (6, "reg ONE 66 0"), (Fault::Range, 5)),
         ((19, "  1 p = in R"), (22, "  2 s = U.mullo a i"), (Fault::Unknown, 19)),
@@ -257,6 +160,12 @@ fn names_the_least_fault(rt: HostRuntime) -> Result<(), Fail> {
         let text = changed(alloc, text.as_str(), other.0, other.1)?;
         assert_eq!(rt; fault_of(alloc, text.as_str())?, Some(fault), "{}", one.1);
     }
+    Ok(())
+}
+
+#[test]
+fn accepts_a_larger_one(rt: HostRuntime) -> Result<(), Fail> {
+    assert_eq!(rt; fault_of(rt.alloc(), larger())?, None);
     Ok(())
 }
 
