@@ -51,3 +51,7 @@ avg_card = record { name = codes "avg"; ops = average ∷ []; widths = Any; late
 -- the low and the high half of a product
 abbrev pub mul_card : Card
 mul_card = record { name = codes "mul"; ops = on_both (codes "mullo") two.Mullo ∷ on_both (codes "mulhi") two.Mulhi ∷ []; widths = Any; latency = WidthPlusOne }
+
+-- the quotient, and the remainder
+abbrev pub div_card : Card
+div_card = record { name = codes "div"; ops = on_both (codes "divu") two.Divu ∷ on_both (codes "remu") two.Remu ∷ []; widths = Any; latency = WidthPlusOne }

@@ -25,8 +25,3 @@ pub use name::{Name, is_name};
 pub use term::{BinOp, Term, UnOp};
 pub use value::{binary, eval, unary};
 pub use words::{mask, sext};
-
-#[cfg(test)]
-mod rows;
-#[cfg(test)]
-mod tests;

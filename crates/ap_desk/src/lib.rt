@@ -9,5 +9,3 @@ pub mod pieces;
 pub mod sure;
 pub mod system;
 mod table;
-#[cfg(test)]
-mod tests;

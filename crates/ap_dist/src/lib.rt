@@ -12,10 +12,3 @@ mod trail;
 pub use access::{Access, Part};
 pub use distance::{dist, out};
 pub use source::{Group, Operand, Source, SourceLine};
-
-#[cfg(test)]
-mod program_rows;
-#[cfg(test)]
-mod rows;
-#[cfg(test)]
-mod tests;

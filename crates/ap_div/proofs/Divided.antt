@@ -8,7 +8,8 @@ use Rattle.std.proofs.lemmas.Bool.{cases_lt, lt-ltb, le-ltb, ne_eqb}
 use Rattle.ap_bits.proofs.TermValues.{term_values}
 use Rattle.ap_unit.specs.Methods.{State, after_steps, Reaches}
 use Rattle.ap_bits.specs.Cards.{operation_value}
-use Rattle.ap_div.specs.Quotients.{div_card, divide, longer_rest, quotient_step}
+use Rattle.ap_bits.specs.KindCards.{div_card}
+use Rattle.ap_div.specs.Quotients.{divide, longer_rest, quotient_step}
 
 -- the state after n of w steps
 record IsPartly (w a b n : ℕ) (state : State) : Type 0 where

@@ -1,20 +1,6 @@
--- The card of a divider, and the method by which it comes to quotient and remainder: as on paper, a bit of the dividend a step.
-use Rattle.std.specs.Prelude.{ℕ, ◌+◌, ◌-◌, ◌*◌, ◌/◌, ◌%◌, ◌^◌, [], ◌∷◌, codes, nat_lt, if◌then◌else◌}
-use Rattle.ap_bits.specs.declared.term.BinOp.TheVariants.{Divu, Remu}
-use Rattle.ap_bits.specs.declared.term.Term.{Bin, A, B}
-use Rattle.ap_bits.specs.declared.card.Card.{Card}
-use Rattle.ap_bits.specs.declared.card.Widths.TheVariants.{Any}
-use Rattle.ap_bits.specs.declared.card.Latency.TheVariants.{WidthPlusOne}
+-- The method by which a divider comes to quotient and remainder: as on paper, a bit of the dividend a step.
+use Rattle.std.specs.Prelude.{ℕ, ◌+◌, ◌-◌, ◌*◌, ◌/◌, ◌%◌, ◌^◌, nat_lt, if◌then◌else◌}
 use Rattle.ap_unit.specs.Methods.{State, Method}
-
--- the quotient, and the remainder
-abbrev pub div_card : Card
-div_card = record {
-  name = codes "div";
-  ops = record { name = codes "divu"; term = Bin Divu A B } ∷ record { name = codes "remu"; term = Bin Remu A B } ∷ [];
-  widths = Any;
-  latency = WidthPlusOne;
-}
 
 -- The rest of the division so far, with the highest bit of the low number below it.
 abbrev pub longer_rest : ℕ → State → ℕ

@@ -7,7 +7,8 @@ ghost use Rattle.ap_bits.specs.Cards.{FitsWidth};
 ghost use Rattle.ap_unit.specs.Built.{IsBlank, IsUnitDraft};
 ghost use Rattle.ap_unit.specs.Named.{NamesPlainly};
 ghost use Rattle.ap_unit.specs.Stepping.{HoldsStepper, IsPair, MakesStep, Gives, state_of};
-ghost use Rattle.ap_div.specs.Quotients.{div_card, divide, longer_rest, quotient_step};
+ghost use Rattle.ap_bits.specs.KindCards.{div_card};
+ghost use Rattle.ap_div.specs.Quotients.{divide, longer_rest, quotient_step};
 
 use crate::difference::difference_with_cover;
 use ap_bits::value::binary;

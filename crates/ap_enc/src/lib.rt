@@ -7,6 +7,3 @@ pub mod word;
 
 pub use faults::judge;
 pub use word::{FieldRange, encode, find};
-
-#[cfg(test)]
-mod tests;

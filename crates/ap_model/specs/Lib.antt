@@ -8,11 +8,9 @@ pub mod HeldStages
 pub mod Landings
 pub mod LineForms
 pub mod OneCount
-pub mod PlainViews
 pub mod PortForms
 pub mod Ports
 pub mod Runnable
-pub mod Scenes
 pub mod Sequence
 pub mod ShownRows
 pub mod Stalls

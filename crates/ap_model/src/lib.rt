@@ -6,7 +6,6 @@
 #![tactic(auto)]
 
 pub mod laws;
-pub mod plain;
 pub mod sequence;
 pub mod state;
 pub mod storage;

@@ -7,7 +7,8 @@ use Rattle.ap_bits.proofs.TermValues.{term_values}
 use Rattle.ap_unit.specs.Methods.{State, Method, after_steps, shown_of, Reaches}
 use Rattle.ap_bits.specs.Cards.{operation_value}
 use Rattle.ap_unit.proofs.TopBits.{bit_cases}
-use Rattle.ap_mul.specs.Products.{mul_card, multiply, product_step}
+use Rattle.ap_bits.specs.KindCards.{mul_card}
+use Rattle.ap_mul.specs.Products.{multiply, product_step}
 
 -- the state after n of w steps
 record IsPartly (w a b n : ℕ) (state : State) : Type 0 where

@@ -7,7 +7,8 @@ ghost use Rattle.ap_bits.specs.Cards.{FitsWidth};
 ghost use Rattle.ap_unit.specs.Built.{IsBlank, IsUnitDraft};
 ghost use Rattle.ap_unit.specs.Named.{NamesPlainly};
 ghost use Rattle.ap_unit.specs.Stepping.{HoldsStepper, IsPair, MakesStep, Gives, state_of};
-ghost use Rattle.ap_mul.specs.Products.{mul_card, multiply, product_step};
+ghost use Rattle.ap_bits.specs.KindCards.{mul_card};
+ghost use Rattle.ap_mul.specs.Products.{multiply, product_step};
 
 use crate::sum::sum_with_carry;
 use ap_bits::value::binary;

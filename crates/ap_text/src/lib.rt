@@ -15,6 +15,3 @@ pub use digits::{put_dec, put_hex, written_is_read};
 pub use line::{Line, Span};
 pub use numbers::{NumberFault, number};
 pub use reading::lines;
-
-#[cfg(test)]
-mod rows;

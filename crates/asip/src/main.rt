@@ -4,9 +4,7 @@
 
 ghost use Rattle.std.specs.Prelude.{◌≡◌, IfOk};
 ghost use Rattle.ap_unit.specs.Shelves.{boxed_cards_of};
-ghost use Rattle.ap_bits.specs.KindCards.{alu_card, shift_card, count_card, avg_card};
-ghost use Rattle.ap_mul.specs.Products.{mul_card};
-ghost use Rattle.ap_div.specs.Quotients.{div_card};
+ghost use Rattle.ap_bits.specs.KindCards.{alu_card, shift_card, count_card, avg_card, mul_card, div_card};
 ghost use Rattle.asip.specs.Shelf.{program_cards};
 
 use ap_comb::{Alu, Avg, Count, Shift};

@@ -8,7 +8,7 @@ ghost use Rattle.ap_model.specs.Runnable.{IsRunnable};
 use ap_bits::{Items, Name, NoMemory};
 use ap_desc::design::{Act, Arg, Design, Field, Format, Instr, Micro, Reg};
 use ap_image::{Image, Trace, Write};
-use ap_model::plain::rows;
+use ap_plain::rows;
 use std::alloc::Global;
 use std::test::Fail;
 

@@ -2,7 +2,8 @@ use Rattle.std.proofs.Common.{refl, subst}
 use Rattle.std.proofs.lemmas.Result.{on_ok_weaker}
 use Rattle.ap_unit.specs.Built.{IsUnitDraft}
 use Rattle.ap_unit.proofs.Begun.{HoldsStepper-Makes}
-use Rattle.ap_div.specs.Quotients.{div_card, divide}
+use Rattle.ap_bits.specs.KindCards.{div_card}
+use Rattle.ap_div.specs.Quotients.{divide}
 use Rattle.ap_div.proofs.Divided.{divided}
 use Rattle.ap_div.proofs.quotient.DivUnitKind.build.Goals as goal
 

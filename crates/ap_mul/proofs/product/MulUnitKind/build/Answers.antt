@@ -2,7 +2,8 @@ use Rattle.std.proofs.Common.{refl, subst}
 use Rattle.std.proofs.lemmas.Result.{on_ok_weaker}
 use Rattle.ap_unit.specs.Built.{IsUnitDraft}
 use Rattle.ap_unit.proofs.Begun.{HoldsStepper-Makes}
-use Rattle.ap_mul.specs.Products.{mul_card, multiply}
+use Rattle.ap_bits.specs.KindCards.{mul_card}
+use Rattle.ap_mul.specs.Products.{multiply}
 use Rattle.ap_mul.proofs.Multiplied.{multiplied}
 use Rattle.ap_mul.proofs.product.MulUnitKind.build.Goals as goal
 

@@ -1,6 +1,0 @@
-use Rattle.std.proofs.Common.{sym, subst}
-use Rattle.ap_desc.specs.Sound.{IsSound}
-use Rattle.ap_enc.proofs.tests.judged_fifth.Goals as goal
-
-pub judge-requires : goal.judge-requires
-judge-requires c = subst IsSound (sym c.in_ok-design.ensures) c.requires

@@ -1,5 +1,0 @@
-use Rattle.std.proofs.Common.{length}
-use Rattle.ap_model.proofs.plain.scene.+add_passes.Given as goal
-
-abbrev pub decreases-add_passes : goal.decreases-add_passes
-decreases-add_passes l = length l.flights.now

@@ -1,6 +1,0 @@
-use Rattle.ap_model.specs.PlainViews.{sight_of}
-use Rattle.ap_model.proofs.StageLemmas.{IsReached}
-use Rattle.ap_model.proofs.plain.stage.locals_after.Given as goal
-
-abbrev pub invariant-loop-micro : goal.invariant-loop-micro
-invariant-loop-micro l = IsReached (sight_of l.view) l.stage l.before l.micro-index l.locals

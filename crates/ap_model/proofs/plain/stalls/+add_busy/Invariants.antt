@@ -1,5 +1,0 @@
-use Rattle.std.proofs.Common.{length}
-use Rattle.ap_model.proofs.plain.stalls.+add_busy.Given as goal
-
-abbrev pub decreases-add_busy : goal.decreases-add_busy
-decreases-add_busy l = length l.flights.now

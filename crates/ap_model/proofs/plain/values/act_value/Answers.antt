@@ -1,4 +1,0 @@
-use Rattle.ap_model.proofs.plain.values.act_value.Goals as goal
-
-pub returns-in-ReadIn-clause-fits : goal.returns-in-ReadIn-clause-fits
-returns-in-ReadIn-clause-fits c = rw (c.in-ReadIn.is, c.at-in-ReadIn.ensures) (c.requires.sight.inputs 0 c.in-ReadIn.input)

@@ -1,0 +1,2 @@
+pub mod PlainViews
+pub mod Scenes

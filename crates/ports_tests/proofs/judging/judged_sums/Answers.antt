@@ -1,7 +1,0 @@
-use Rattle.std.proofs.Common.{◌∷◌, [], ◌∙◌, ap, subst, sym}
-use Rattle.ap_desc.specs.Sound.{IsSound}
-use Rattle.ports_tests.specs.Examples.{ports_design}
-use Rattle.ports_tests.proofs.judging.judged_sums.Goals as goal
-
-pub judge-requires : goal.judge-requires
-judge-requires c = subst IsSound (sym (c.in_ok-design.ensures ∙ ap (λ ms. ports_design 4 2 1 (8 ∷ 8 ∷ 8 ∷ []) ms [] [] [] []) c.two_sums-lines.ensures)) c.requires
