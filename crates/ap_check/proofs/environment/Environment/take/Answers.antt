@@ -9,3 +9,16 @@ describe-requires-clause-fixed g c =
 pub describe-requires-clause-kind : goal.describe-requires-clause-kind
 describe-requires-clause-kind g c =
     has_kind_of (cards_of (λ x. (goal.UnitKind-dyn g x).card x.1) c.args.shelf.now) c.args.self.now.declared c.args.n.now.statement c.in_ok-used.ensures.clean
+
+pub returns-in_err-used : goal.returns-in_err-used
+returns-in_err-used g c =
+    let h = c.in_err-used.ensures.refused in
+    let i = c.in_err-used.is in
+    ?
+
+pub returns : goal.returns
+returns g c =
+    let h = c.descriptions_grow.ensures in
+    let k = c.in_ok-describe.ensures in
+    let m = c.in_ok-declare.ensures in
+    ?
