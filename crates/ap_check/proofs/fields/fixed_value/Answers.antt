@@ -1,19 +1,21 @@
 use Rattle.std.proofs.Common.{◌≡◌, ℕ, List, Option, Some, None, option_map, false, sym, ap, subst, ◌∙◌}
 use Rattle.std.specs.Prelude.{slice_get}
-use Rattle.ap_desc.specs.Instructions.{fixed_of}
+use Rattle.ap_desc.specs.Parts.{place_of}
 use Rattle.ap_desc.specs.Reserved.{is_among}
 use Rattle.ap_desc.specs.Spelling.{field_names}
 use Rattle.ap_desc.specs.declared.statement.FieldNumber.{FieldNumber}
-use Rattle.ap_check.proofs.NameLists.{at_place, none_named}
+use Rattle.ap_check.proofs.NameLists.{at_place, got_some, none_named}
 use Rattle.ap_check.proofs.fields.fixed_value.Goals as goal
 
 pub returns-in-Some-get : goal.returns-in-Some-get
 returns-in-Some-get c =
-    let h = c.in-Some-get.ensures.lookup in
-    let k = c.in-Some.ensures in
-    let m = c.in-Some-get.f-is in
-    let n = c.in-Some-get.is in
-    ?
+    let found = c.in-Some-get.ensures.lookup in
+    let got : slice_get c.args.fixed.now c.in-Some.place ≡ Some c.in-Some-get.f.now = got_some c.args.fixed.now c.in-Some.place c.in-Some-get.f.now found.3.0 found.1 in
+    let text : c.in-Some.place ≡ place_of c.args.names.now c.as_str.result.now = c.in-Some.ensures.1 in
+    let here : c.in-Some.place ≡ place_of (field_names c.args.fixed.now) c.args.field.now.name =
+        text ∙ ap (λ (ns : List (List ℕ)). place_of ns c.as_str.result.now) c.requires ∙ ap (place_of (field_names c.args.fixed.now)) c.as_str.ensures.same in
+    ap (option_map (λ (f : FieldNumber). f.number))
+    (sym got ∙ ap (slice_get c.args.fixed.now) here ∙ at_place (λ (f : FieldNumber). f.field) c.args.fixed.now c.args.field.now.name)
 
 pub returns-in-None : goal.returns-in-None
 returns-in-None c =

@@ -5,4 +5,4 @@ use Rattle.ap_check.proofs.uses.operations_of.Goals as goal
 pub loop-i-preserved : goal.loop-i-preserved
 loop-i-preserved g c =
     names_more (operation_names ((goal.UnitKind-dyn g c.args.kind.now).card c.args.kind.now.1)) c.loop-i.i c.op_name.result.now c.loop-i.names c.add.new.self
-    c.name-name.ensures.rules.distinct c.op_name.ensures c.loop-i.invariant c.in_ok-add.ensures
+    c.name-name.ensures.1.distinct c.op_name.ensures c.loop-i.invariant c.in_ok-add.ensures
