@@ -1,25 +1,23 @@
 -- A draft that describes statements has the fields, locals and widths of their scope; and one more line is the line of its block.
-use Rattle.std.proofs.Common.{◌≡◌, ℕ, ◌<◌, Bool, true, false, List, [], ◌∷◌, ◌++◌, map, Option, Some, None, option_map, refl, sym, ap, subst, ◌∙◌, append_assoc, append-nil}
-use Rattle.std.specs.Prelude.{option_to_list, reverse, slice_get}
+use Rattle.std.proofs.Common.{◌≡◌, List, [], ◌∷◌, ◌++◌, map, Option, Some, None, option_map, refl, sym, ap, ◌∙◌, append_assoc, append-nil}
+use Rattle.std.specs.Prelude.{option_to_list, reverse}
 use Rattle.std.specs.Option.{option_map_or}
 use Rattle.std.proofs.lemmas.List.{map-append, reverse-append}
 use Rattle.std.proofs.lemmas.List.Sums.{fold_push}
 use Rattle.ap_bits.specs.declared.card.Card.{Card}
 use Rattle.ap_desc.specs.declared.description.Numbered.{Numbered}
 use Rattle.ap_desc.specs.declared.design.Act.{Act}
-use Rattle.ap_desc.specs.declared.design.Arg.{Arg}
 use Rattle.ap_desc.specs.declared.design.Design.{Design}
 use Rattle.ap_desc.specs.declared.design.Field.{Field}
 use Rattle.ap_desc.specs.declared.design.Format.{Format}
 use Rattle.ap_desc.specs.declared.design.Instr.{Instr}
 use Rattle.ap_desc.specs.declared.design.Micro.{Micro}
-use Rattle.ap_desc.specs.Designs.{arg_width, fields_of, local_width, widths_of}
+use Rattle.ap_desc.specs.Designs.{fields_of, local_width, widths_of}
 use Rattle.ap_desc.specs.Instructions.{Block, act_of, arg_of, each_after, instr_of, local_names, micro_of, micros_of, stage_of}
 use Rattle.ap_desc.specs.Parts.{fields_named}
 use Rattle.ap_desc.specs.Scope.{open_fields, open_lines}
-use Rattle.ap_check.specs.Drafts.{draft_fields, draft_widths, instr_with, width_in}
+use Rattle.ap_check.specs.Drafts.{instr_with}
 use Rattle.ap_check.specs.Known.{IsSplit}
-use Rattle.ap_check.specs.declared.draft.Draft.{Draft}
 use Rattle.ap_check.proofs.NameLists.{at_place}
 
 -- what the lines of an instruction give, line after line
@@ -38,10 +36,10 @@ instr_grown cards design b n a e =
     let lines : List Micro = micros_of cards design fields b.lines in
     let m : Micro = record { line = n.line; stage = stage_of n.statement; act = a } in
     let grown : micros_of cards design fields (b.lines ++ n ∷ []) ≡ lines ++ m ∷ [] =
-      each_after-append (λ earlier x. micro_of cards design fields (local_names earlier) x) [] b.lines n
-      ∙ ap (λ o. lines ++ option_to_list (option_map (λ (x : Act). let y : Micro = record { line = n.line; stage = stage_of n.statement; act = x } in y) o)) e in
+    each_after-append (λ earlier x. micro_of cards design fields (local_names earlier) x) [] b.lines n
+    ∙ ap (λ o. lines ++ option_to_list (option_map (λ (x : Act). let y : Micro = record { line = n.line; stage = stage_of n.statement; act = x } in y) o)) e in
     let widths : widths_of design fields (lines ++ m ∷ []) ≡ widths_of design fields lines ++ option_to_list (local_width design (widths_of design fields lines) fields a) =
-      fold_push (λ ws (x : Micro). ws ++ option_to_list (local_width design ws fields x.act)) [] lines m in
+    fold_push (λ ws (x : Micro). ws ++ option_to_list (local_width design ws fields x.act)) [] lines m in
     ap (λ ms. record (instr_of cards design b) { locals = widths_of design fields ms; micros = ms }) grown
     ∙ ap (λ ws. record (instr_of cards design b) { locals = ws; micros = lines ++ m ∷ [] }) widths
 

@@ -1,6 +1,6 @@
 -- What one more line of an instruction adds to a draft that describes the statements before it.
-use Rattle.std.proofs.Common.{◌≡◌, ℕ, ◌+◌, ◌-◌, ◌<◌, ◌≤◌, min, Bool, true, false, not, ◌||◌, nat_le, nat_lt, List, [], ◌∷◌, ◌++◌, Option, Some, None, option_map, Ok, Err, refl, sym, ap, subst, ◌∙◌, arith, leb-true}
-use Rattle.std.specs.Prelude.{if◌then◌else◌, option_to_list, Result, MatchResult}
+use Rattle.std.proofs.Common.{◌≡◌, ℕ, ◌+◌, ◌-◌, ◌<◌, ◌≤◌, true, not, nat_le, List, [], ◌∷◌, ◌++◌, Option, Some, None, option_map, Ok, Err, refl, sym, ap, subst, ◌∙◌, arith, leb-true}
+use Rattle.std.specs.Prelude.{if◌then◌else◌, Result, MatchResult}
 use Rattle.std.specs.Option.{option_map_or}
 use Rattle.std.proofs.lemmas.Bool.{not-false, or_parts}
 use Rattle.ap_bits.specs.declared.card.Card.{Card}
@@ -15,12 +15,9 @@ use Rattle.ap_desc.specs.declared.design.Micro.{Micro}
 use Rattle.ap_desc.specs.Declarations.{declarations}
 use Rattle.ap_desc.specs.Designs.{arg_width, local_width, widths_of}
 use Rattle.ap_desc.specs.Instructions.{Block, act_of, arg_of, begun, blocks_of, instr_of, local_names, micros_of, stage_of, with_line}
-use Rattle.ap_desc.specs.NameFaults as n
 use Rattle.ap_desc.specs.Order.{is_micro}
-use Rattle.ap_desc.specs.Parts.{fields_named}
 use Rattle.ap_desc.specs.Scope.{Scope, open_fields, open_lines, scope_after}
 use Rattle.ap_desc.specs.WidthFaults as widths
-use Rattle.ap_desc.specs.Widths as w
 use Rattle.ap_check.specs.Added.{IsLineAddedAs}
 use Rattle.ap_check.specs.Drafts.{AreNarrow, draft_fields, draft_widths, instr_with, line_fault, local_in, width_fault, width_in, with_line as with_draft_line}
 use Rattle.ap_check.specs.Known.{Describes, IsSplit}
@@ -137,18 +134,20 @@ line_step cards statements before n a old new result micro law whole acted ports
       let act_kept : narrowed_act a ≡ a = kept_act old.design (width_in old) (stage_of n.statement) a none narrow here in
       let stage_kept : narrowed (stage_of n.statement) ≡ stage_of n.statement = kept_stage old.design (width_in old) (stage_of n.statement) a none added.stages in
       let made : new ≡ with_draft_line old (record { line = n.line; stage = stage_of n.statement; act = a }) =
-        h.1 ∙ ap (λ (x : Act). with_draft_line old (record { line = n.line; stage = narrowed (stage_of n.statement); act = x })) act_kept
-        ∙ ap (λ t. with_draft_line old (record { line = n.line; stage = t; act = a })) stage_kept in
+      h.1 ∙ ap (λ (x : Act). with_draft_line old (record { line = n.line; stage = narrowed (stage_of n.statement); act = x })) act_kept
+      ∙ ap (λ t. with_draft_line old (record { line = n.line; stage = t; act = a })) stage_kept in
       let blocks : blocks_of (before ++ n ∷ []) ≡ with_line n (blocks_of before) =
-        blocks_push before n ∙ ap (λ m. if m then with_line n (blocks_of before) else begun n n.statement ++ blocks_of before) micro in
+      blocks_push before n ∙ ap (λ m. if m then with_line n (blocks_of before) else begun n n.statement ++ blocks_of before) micro in
       let acts = subst (λ (d : Design). act_of cards d (arg_of (open_fields d (blocks_of before)) (local_names (open_lines (blocks_of before)))) n.statement ≡ Some a) whole acted in
-      let width = local_kept old (stage_of n.statement) a none narrow ∙ local_same cards (declarations statements cards) (blocks_of before) old (knows.declares ∙ whole) knows.split a in
-      (fault ∙ none, record {
-        declares = ap (λ (d : Draft). record d.design { instrs = [] }) made ∙ knows.declares ∙ sym law;
-        split =
-          subst (λ bs. IsSplit cards (declarations statements cards) bs new.design.instrs new.begun) (sym blocks)
-          (subst (λ (d : Draft). IsSplit cards (declarations statements cards) (with_line n (blocks_of before)) d.design.instrs d.begun) (sym made)
-          (split_grown cards (declarations statements cards) (blocks_of before) n a old.design.instrs old.begun (local_in old a) acts width knows.split));
-        narrow = subst (λ (d : Draft). d.design.word ≤ 64) (sym made) knows.narrow;
-      })
+      let width = local_kept old (stage_of n.statement) a none narrow ∙ local_same cards (declarations statements cards) (blocks_of before) old (knows.declares ∙ whole) knows.split a in (
+        fault ∙ none,
+        record {
+          declares = ap (λ (d : Draft). record d.design { instrs = [] }) made ∙ knows.declares ∙ sym law;
+          split =
+              subst (λ bs. IsSplit cards (declarations statements cards) bs new.design.instrs new.begun) (sym blocks)
+              (subst (λ (d : Draft). IsSplit cards (declarations statements cards) (with_line n (blocks_of before)) d.design.instrs d.begun) (sym made)
+              (split_grown cards (declarations statements cards) (blocks_of before) n a old.design.instrs old.begun (local_in old a) acts width knows.split));
+          narrow = subst (λ (d : Draft). d.design.word ≤ 64) (sym made) knows.narrow;
+        },
+      )
   by (Err why) h = subst (λ f. IsStoppedBy f why) (sym (fault ∙ sym same_fault)) h

@@ -9,28 +9,25 @@ use Rattle.std.proofs.lemmas.List.Folds.{list_all-append}
 use Rattle.ap_bits.specs.Cards.{latency_at, operation_names}
 use Rattle.ap_bits.specs.declared.card.Card.{Card}
 use Rattle.ap_desc.specs.declared.description.Numbered.{Numbered}
-use Rattle.ap_desc.specs.declared.design.Field.{Field}
 use Rattle.ap_desc.specs.declared.design.File.{File}
 use Rattle.ap_desc.specs.declared.design.Format.{Format}
 use Rattle.ap_desc.specs.declared.design.InPort.{InPort}
 use Rattle.ap_desc.specs.declared.design.Mem.{Mem}
 use Rattle.ap_desc.specs.declared.design.Reg.{Reg}
 use Rattle.ap_desc.specs.declared.design.Unit.{Unit as Resource}
-use Rattle.ap_desc.specs.declared.fault.Fault.{Fault}
 use Rattle.ap_desc.specs.declared.statement.FieldNumber.{FieldNumber}
 use Rattle.ap_desc.specs.declared.statement.Statement.{Statement}
 use Rattle.ap_desc.specs.declared.statement.Statement.TheVariants as s
 use Rattle.ap_desc.specs.Declarations.{fields_said}
-use Rattle.ap_desc.specs.Instructions.{assigned_name}
 use Rattle.ap_desc.specs.NameFaults as n
-use Rattle.ap_desc.specs.Parts.{card_named, fields_named, format_names, kind_names, named, names_of_fields, place_of}
+use Rattle.ap_desc.specs.Parts.{card_named, format_names, kind_names, names_of_fields, place_of}
 use Rattle.ap_desc.specs.Reserved.{is_among}
 use Rattle.ap_desc.specs.Scope.{Scope, scope_with}
 use Rattle.ap_desc.specs.Spelling.{field_names}
 use Rattle.ap_check.specs.Known.{IsOpen, KnowsNames, has_kind, operations_of, ports_of, tables_of}
 use Rattle.ap_check.specs.Names.{with_name}
 use Rattle.ap_check.specs.Tables.{first_name_fault, is_local_taken, is_part, is_twice, is_unknown, is_without, name_fault}
-use Rattle.ap_check.specs.Uses.{declared_with, use_of, with_assigned}
+use Rattle.ap_check.specs.Uses.{declared_with, use_of}
 use Rattle.ap_check.specs.declared.declared.Declared.{Declared}
 use Rattle.ap_check.specs.declared.declared.Ports.{Ports}
 use Rattle.ap_check.specs.declared.uses.Use.{Use}
@@ -111,8 +108,8 @@ module _ (cards : List Card) (scope : Scope) (place : Option ℕ) (begun : IsOpe
 
   unit_grown : (name kind : List ℕ) (width latency : ℕ) → is_among name d.units ≡ false → not (is_among kind (kind_names cards)) ≡ false
       → let unit : Resource = record { name = name; kind = place_of (kind_names cards) kind; width = width; latency = latency } in
-        KnowsNames cards (record scope { design = record scope.design { units = scope.design.units ++ unit ∷ [] } })
-        (record d { units = with_name d.units name; operations = d.operations ++ option_map_or operation_names (card_named cards kind) [] ∷ [] })
+      KnowsNames cards (record scope { design = record scope.design { units = scope.design.units ++ unit ∷ [] } })
+      (record d { units = with_name d.units name; operations = d.operations ++ option_map_or operation_names (card_named cards kind) [] ∷ [] })
   unit_grown name kind width latency new found =
       let unit : Resource = record { name = name; kind = place_of (kind_names cards) kind; width = width; latency = latency } in
       let at = at_place (λ (c : Card). c.name) cards kind in
@@ -205,6 +202,6 @@ pub names_grow : (cards : List Card) (scope : Scope) (m : Numbered) (d : Declare
     → KnowsNames cards (scope_with cards scope m) (declared_with cards d m.statement used)
 names_grow cards scope m d used knows clean same =
     let after : (t : Declared) → d ≡ t → KnowsNames cards (scope_with cards scope m) (declared_with cards t m.statement (use_of cards t m.statement)) → KnowsNames cards (scope_with cards scope m) (declared_with cards d m.statement used) =
-      λ t e h. subst (λ x. KnowsNames cards (scope_with cards scope m) (declared_with cards d m.statement x)) (sym same) (subst (λ x. KnowsNames cards (scope_with cards scope m) (declared_with cards x m.statement (use_of cards x m.statement))) (sym e) h) in
+    λ t e h. subst (λ x. KnowsNames cards (scope_with cards scope m) (declared_with cards d m.statement x)) (sym same) (subst (λ x. KnowsNames cards (scope_with cards scope m) (declared_with cards x m.statement (use_of cards x m.statement))) (sym e) h) in
     after (tables_of cards scope d.begun) knows.tables
     (all_grown cards scope d.begun knows.fields knows.kinds m.line m.statement (none_of_names _ _ _ _ (sym (ap (λ t. name_fault cards t m.statement) knows.tables) ∙ clean)))

@@ -1,5 +1,5 @@
 -- Faults of statements with one more at the end, and what is noted of them.
-use Rattle.std.proofs.Common.{◌≡◌, ℕ, ◌<◌, ◌≤◌, Bool, true, false, List, [], ◌∷◌, ◌++◌, ◌⊎◌, inl, inr, Option, Some, None, refl, sym, ap, subst, ◌∙◌, arith, append_assoc, true≢false}
+use Rattle.std.proofs.Common.{◌≡◌, ℕ, ◌<◌, List, [], ◌∷◌, ◌++◌, ◌⊎◌, inl, inr, refl, sym, ap, subst, ◌∙◌, arith, append_assoc, true≢false}
 use Rattle.std.specs.Prelude.{IsTrue}
 use Rattle.ap_bits.specs.declared.card.Card.{Card}
 use Rattle.ap_desc.specs.declared.description.Numbered.{Numbered}
@@ -7,11 +7,11 @@ use Rattle.ap_desc.specs.declared.fault.Fault.{Fault}
 use Rattle.ap_desc.specs.declared.fault.Refusal.{Refusal}
 use Rattle.ap_desc.specs.Descriptions.{RiseAbove}
 use Rattle.ap_desc.specs.Faults.{IsBefore}
-use Rattle.ap_desc.specs.FaultTable.{phase_of, number_of}
+use Rattle.ap_desc.specs.FaultTable.{phase_of}
 use Rattle.ap_desc.specs.Least.{HoldsNowhere, IsLeast}
 use Rattle.ap_desc.specs.Scope.{scope_after}
 use Rattle.ap_desc.specs.StatementFaults.{HasStatementFault, is_faulty}
-use Rattle.ap_check.specs.Known.{HasFaultOf, IsNoted}
+use Rattle.ap_check.specs.Known.{HasFaultOf}
 use Rattle.ap_check.specs.Phases.{HoldsNoneOf, IsFirstOf}
 use Rattle.ap_check.proofs.Places.{IsBeside, beside, later_line}
 
@@ -29,8 +29,9 @@ fault_last cards before n kind line fault = by (beside before n [] fault.before 
   by : IsBeside before n [] fault.before fault.n fault.place.after → HasStatementFault before cards kind line ⊎ FaultAt cards before n kind line
   by (inl (mid, split)) = inl (record { before = fault.before; n = fault.n; place = record { after = mid; parts = split; numbered = fault.place.numbered }; holds = fault.holds })
   by (inr (inl (same, one))) = inr (
-      ap (λ (m : Numbered). m.line) (sym one) ∙ fault.place.numbered,
-      subst (λ (m : Numbered). IsTrue (is_faulty cards (scope_after before cards) m.statement kind)) one (subst (λ (l : List Numbered). IsTrue (is_faulty cards (scope_after l cards) fault.n.statement kind)) same fault.holds))
+    ap (λ (m : Numbered). m.line) (sym one) ∙ fault.place.numbered,
+    subst (λ (m : Numbered). IsTrue (is_faulty cards (scope_after before cards) m.statement kind)) one (subst (λ (l : List Numbered). IsTrue (is_faulty cards (scope_after l cards) fault.n.statement kind)) same fault.holds),
+  )
   by (inr (inr (mid, none))) = absurd (no_parts mid fault.n fault.place.after none)
 
 -- a fault stays with more statements
@@ -83,7 +84,7 @@ noted_stays cards statements before n after refusal rise e old = record {
     up : refusal.line < n.line
     up = let at : old.holds.1.n.line ≡ refusal.line = old.holds.1.place.numbered in
         let low : old.holds.1.n.line < n.line = later_line statements old.holds.1.before old.holds.1.n old.holds.1.place.after n after rise
-            (e ∙ ap (λ l. l ++ n ∷ after) old.holds.1.place.parts ∙ append_assoc old.holds.1.before (old.holds.1.n ∷ old.holds.1.place.after) (n ∷ after)) in
+        (e ∙ ap (λ l. l ++ n ∷ after) old.holds.1.place.parts ∙ append_assoc old.holds.1.before (old.holds.1.n ∷ old.holds.1.place.after) (n ∷ after)) in
         omega arith
 
     least : (other : Fault) (line : ℕ) → HasFaultOf (before ++ n ∷ []) cards 3 other line → IsBefore other line refusal.kind refusal.line → ⊥

@@ -1,5 +1,5 @@
 -- The least fault of a description from the first statement with a fault of names, and from what is noted at the end.
-use Rattle.std.proofs.Common.{◌≡◌, ℕ, ◌<◌, ◌≤◌, Bool, true, false, List, [], ◌∷◌, ◌++◌, ◌⊎◌, inl, inr, refl, sym, ap, subst, ◌∙◌, arith, true≢false}
+use Rattle.std.proofs.Common.{◌≡◌, ℕ, ◌<◌, List, ◌∷◌, ◌++◌, ◌⊎◌, inl, inr, refl, sym, ap, subst, ◌∙◌, arith, true≢false}
 use Rattle.std.specs.Prelude.{IsTrue}
 use Rattle.ap_bits.specs.declared.card.Card.{Card}
 use Rattle.ap_desc.specs.declared.description.Numbered.{Numbered}
@@ -9,14 +9,13 @@ use Rattle.ap_desc.specs.declared.fault.Fault.TheVariants as f
 use Rattle.ap_desc.specs.declared.fault.Refusal.{Refusal}
 use Rattle.ap_desc.specs.Descriptions.{IsDescription}
 use Rattle.ap_desc.specs.Faults.{IsBefore}
-use Rattle.ap_desc.specs.FaultTable.{phase_of, number_of}
+use Rattle.ap_desc.specs.FaultTable.{phase_of}
 use Rattle.ap_desc.specs.Least.{HoldsNowhere, IsLeast}
 use Rattle.ap_desc.specs.Scope.{scope_after}
-use Rattle.ap_desc.specs.StatementFaults.{HasStatementFault, IsLineOf, is_faulty}
+use Rattle.ap_desc.specs.StatementFaults.{HasStatementFault, is_faulty}
 use Rattle.ap_desc.specs.declared.statement.Statement.{Statement}
 use Rattle.ap_desc.specs.Scope.{Scope}
 use Rattle.ap_check.specs.Known.{HasFaultOf, IsNameFault}
-use Rattle.ap_check.specs.Phases.{IsFirstOf}
 use Rattle.ap_check.proofs.Places.{not_later}
 
 -- faults of statements are of the phases 2 and 3
@@ -45,6 +44,7 @@ names_refused statements cards before n after refusal described e clean h = reco
   where
     second : phase_of refusal.kind ≡ 2
     second = h.2.phase
+
     here : refusal.line ≡ n.line
     here = h.1
 
@@ -65,7 +65,7 @@ names_refused statements cards before n after refusal described e clean h = reco
         by (inl (mid, split, up)) = let at = fault.place.numbered in absurd (omega arith)
         by (inr (split, one)) =
             let moved : IsTrue (is_faulty cards (scope_after before cards) n.statement kind) =
-                subst (λ (m : Numbered). IsTrue (is_faulty cards (scope_after before cards) m.statement kind)) one (subst (λ (l : List Numbered). IsTrue (is_faulty cards (scope_after l cards) fault.n.statement kind)) split fault.holds) in
+            subst (λ (m : Numbered). IsTrue (is_faulty cards (scope_after before cards) m.statement kind)) one (subst (λ (l : List Numbered). IsTrue (is_faulty cards (scope_after l cards) fault.n.statement kind)) split fault.holds) in
             let not = h.2.first kind (same ∙ second) lower in
             absurd (true≢false (sym moved ∙ not))
 

@@ -1,25 +1,45 @@
 -- What is known before the first statement.
-use Rattle.std.proofs.Common.{◌≡◌, ℕ, ◌≤◌, List, [], Option, None, refl, sym, subst, arith}
+use Rattle.std.proofs.Common.{◌≡◌, ℕ, List, [], None, refl, sym, subst, arith}
 use Rattle.ap_bits.specs.declared.card.Card.{Card}
 use Rattle.ap_desc.specs.declared.description.Numbered.{Numbered}
 use Rattle.ap_desc.specs.Least.{HoldsNowhere}
 use Rattle.ap_check.specs.Known.{HasFaultOf, Knows}
 use Rattle.ap_check.specs.declared.declared.Declared.{Declared}
 use Rattle.ap_check.specs.declared.draft.Draft.{Draft}
-use Rattle.ap_check.specs.declared.environment.Environment.{Environment}
 use Rattle.ap_check.proofs.Noted.{no_parts}
 
 abbrev pub no_names : Declared
 no_names = record {
-  regs = []; files = []; mems = []; inputs = []; units = []; formats = []; instrs = [];
-  ports = []; operations = []; fields = []; begun = None; locals = [];
+  regs = [];
+  files = [];
+  mems = [];
+  inputs = [];
+  units = [];
+  formats = [];
+  instrs = [];
+  ports = [];
+  operations = [];
+  fields = [];
+  begun = None;
+  locals = [];
 }
 
 abbrev pub no_design : Draft
 no_design = record {
   design = record {
-    stages = 0; address = 0; word = 0; branch = 0; slots = 0; transfer_line = 0;
-    regs = []; files = []; mems = []; inputs = []; units = []; formats = []; instrs = [];
+    stages = 0;
+    address = 0;
+    word = 0;
+    branch = 0;
+    slots = 0;
+    transfer_line = 0;
+    regs = [];
+    files = [];
+    mems = [];
+    inputs = [];
+    units = [];
+    formats = [];
+    instrs = [];
   };
   begun = None;
 }

@@ -1,5 +1,5 @@
 -- The faults of names by the tables are those of the scope.
-use Rattle.std.proofs.Common.{◌≡◌, ℕ, zero, suc, nat_lt, subst, arith, Bool, true, false, not, ◌&&◌, ◌||◌, List, [], ◌∷◌, ◌++◌, map, Option, Some, None, option_map, is_some, refl, sym, ap, ◌∙◌}
+use Rattle.std.proofs.Common.{◌≡◌, ℕ, zero, suc, nat_lt, subst, arith, Bool, true, false, not, ◌&&◌, ◌||◌, List, [], ◌∷◌, map, Option, Some, None, option_map, is_some, refl, sym, ap, ◌∙◌}
 use Rattle.std.specs.Prelude.{IsTrue, reverse, slice_get, option_and_then}
 use Rattle.std.specs.List.{list_all, list_any}
 use Rattle.std.specs.Option.{option_map_or}
@@ -8,8 +8,6 @@ use Rattle.std.proofs.lemmas.List.{reverse-append}
 use Rattle.std.proofs.lemmas.List.Folds.{list_any-append}
 use Rattle.ap_bits.specs.Cards.{operation_names}
 use Rattle.ap_bits.specs.declared.card.Card.{Card}
-use Rattle.ap_desc.specs.declared.design.Design.{Design}
-use Rattle.ap_desc.specs.declared.design.Field.{Field}
 use Rattle.ap_desc.specs.declared.design.File.{File}
 use Rattle.ap_desc.specs.declared.design.Format.{Format}
 use Rattle.ap_desc.specs.declared.design.Unit.{Unit as Resource}
@@ -28,7 +26,7 @@ use Rattle.ap_desc.specs.Sound.{are_distinct}
 use Rattle.ap_desc.specs.Spelling.{field_names}
 use Rattle.ap_check.specs.Known.{IsOpen, KnowsNames, has_kind, operations_of, ports_of, tables_of}
 use Rattle.ap_check.specs.Phases.{IsFaultOf}
-use Rattle.ap_check.specs.Tables.{first_name_fault, name_fault, is_local_taken, is_no_guard, is_no_operand, is_no_operation, is_no_read_port, is_no_write_port, is_part, is_twice, is_unknown, is_without, names_at, open_fields, ports_at}
+use Rattle.ap_check.specs.Tables.{first_name_fault, name_fault, is_local_taken, is_no_guard, is_no_operand, is_no_read_port, is_no_write_port, is_part, is_twice, is_unknown, is_without, names_at, open_fields, ports_at}
 use Rattle.ap_check.specs.declared.declared.Declared.{Declared}
 use Rattle.ap_check.specs.declared.declared.Ports.{Ports}
 use Rattle.ap_desc.specs.StatementFaults.{is_faulty}
@@ -101,8 +99,10 @@ module _ (cards : List Card) (scope : Scope) (place : Option ℕ) (begun : IsOpe
     by_file : (o : Option File) → not (nat_lt port (option_map_or ports_of o (record { reads = 0; writes = 0 })).reads) ≡ option_map_or (λ (f : File). not (nat_lt port f.reads)) o true
     by_file None = not_below_zero port
     by_file (Some f) = refl
+
     core : not (nat_lt port (ports_at d (place_of (file_names scope.design) file)).reads) ≡ n.is_no_read_port scope file port
     core = ap (λ (p : Ports). not (nat_lt port p.reads)) (ports_same file) ∙ by_file (file_named scope.design file)
+
     go : (b : Bool) → is_among file (file_names scope.design) ≡ b → (not (is_among file (file_names scope.design)) || not (nat_lt port (ports_at d (place_of (file_names scope.design) file)).reads)) ≡ n.is_no_read_port scope file port
     go true e = ap (λ b. not b || not (nat_lt port (ports_at d (place_of (file_names scope.design) file)).reads)) e ∙ core
     go false e = ap (λ b. not b || not (nat_lt port (ports_at d (place_of (file_names scope.design) file)).reads)) e
@@ -113,8 +113,10 @@ module _ (cards : List Card) (scope : Scope) (place : Option ℕ) (begun : IsOpe
     by_file : (o : Option File) → not (nat_lt port (option_map_or ports_of o (record { reads = 0; writes = 0 })).writes) ≡ option_map_or (λ (f : File). not (nat_lt port f.writes)) o true
     by_file None = not_below_zero port
     by_file (Some f) = refl
+
     core : not (nat_lt port (ports_at d (place_of (file_names scope.design) file)).writes) ≡ n.is_no_write_port scope file port
     core = ap (λ (p : Ports). not (nat_lt port p.writes)) (ports_same file) ∙ by_file (file_named scope.design file)
+
     go : (b : Bool) → is_among file (file_names scope.design) ≡ b → (not (is_among file (file_names scope.design)) || not (nat_lt port (ports_at d (place_of (file_names scope.design) file)).writes)) ≡ n.is_no_write_port scope file port
     go true e = ap (λ b. not b || not (nat_lt port (ports_at d (place_of (file_names scope.design) file)).writes)) e ∙ core
     go false e = ap (λ b. not b || not (nat_lt port (ports_at d (place_of (file_names scope.design) file)).writes)) e
@@ -176,6 +178,7 @@ module _ (cards : List Card) (scope : Scope) (place : Option ℕ) (begun : IsOpe
           → is_missing op (operations_of cards x) ≡ option_map_or (λ (card : Card). is_missing op (operation_names card)) (slice_get cards x.kind) false
       of_card x None e has = let no : is_some (slice_get cards x.kind) ≡ false = ap is_some e in absurd (let wrong : true ≡ false = sym has ∙ no in cc)
       of_card x (Some card) e has = rw e refl
+
       go : (o : Option Resource) → unit_named scope.design unit ≡ o
           → option_map_or (λ (operations : List (List ℕ)). is_missing op operations) (option_map (operations_of cards) o) false
           ≡ option_map_or (λ (card : Card). is_missing op (operation_names card)) (option_and_then (λ (x : Resource). slice_get cards x.kind) o) false
@@ -195,5 +198,5 @@ module _ (cards : List Card) (scope : Scope) (place : Option ℕ) (begun : IsOpe
 pub names_judged : (cards : List Card) (scope : Scope) (d : Declared) (statement : Statement) → KnowsNames cards scope d → IsFaultOf (is_faulty cards scope statement) 2 (name_fault cards d statement)
 names_judged cards scope d statement knows =
     let same : name_fault cards d statement ≡ first_name_fault (n.is_unknown scope statement) (n.is_twice scope statement) (n.is_no_kind cards statement) (n.is_no_operation cards scope statement) =
-      ap (λ t. name_fault cards t statement) knows.tables ∙ name_faults_same cards scope d.begun knows.fields knows.kinds statement in
+    ap (λ t. name_fault cards t statement) knows.tables ∙ name_faults_same cards scope d.begun knows.fields knows.kinds statement in
     subst (IsFaultOf (is_faulty cards scope statement) 2) (sym same) (first_of_names (is_faulty cards scope statement) _ _ _ _ refl refl refl refl)

@@ -17,11 +17,7 @@ use std::alloc::Global;
 /// `Refused` comes exactly where the description has a fault of names or widths, N1 to N4 and W1 to W7, and names the least
 /// one: by its phase, then by its line, then by its number. `NoMemory` comes only where memory ran out. It goes once over the
 /// statements, in a time that goes with their number.
-pub fn resolve(
-    alloc: Global,
-    description: &Description,
-    shelf: &Shelf,
-) -> Result<Design, DescFault>
+pub fn resolve(alloc: Global, description: &Description, shelf: &Shelf) -> Result<Design, DescFault>
     // A description that is resolved has no fault of names or widths, and the design is the one that it means.
     ensures faultless { IfOk result
         (λ _. IsResolvable description.now (cards_of card shelf.now)) }
