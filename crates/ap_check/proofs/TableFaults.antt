@@ -1,5 +1,5 @@
 -- The faults of names by the tables are those of the scope.
-use Rattle.std.proofs.Common.{◌≡◌, ℕ, zero, suc, nat_lt, subst, arith, Bool, true, false, not, ◌&&◌, ◌||◌, List, [], ◌∷◌, map, Option, Some, None, option_map, is_some, refl, sym, ap, ◌∙◌}
+use Rattle.std.proofs.Common.{◌≡◌, ℕ, zero, suc, nat_lt, subst, arith, Bool, true, false, not, ◌&&◌, ◌||◌, List, [], ◌∷◌, ◌++◌, map, Option, Some, None, option_map, is_some, refl, sym, ap, ◌∙◌}
 use Rattle.std.specs.Prelude.{IsTrue, reverse, slice_get, option_and_then}
 use Rattle.std.specs.List.{list_all, list_any}
 use Rattle.std.specs.Option.{option_map_or}
@@ -8,6 +8,8 @@ use Rattle.std.proofs.lemmas.List.{reverse-append}
 use Rattle.std.proofs.lemmas.List.Folds.{list_any-append}
 use Rattle.ap_bits.specs.Cards.{operation_names}
 use Rattle.ap_bits.specs.declared.card.Card.{Card}
+use Rattle.ap_desc.specs.declared.design.Design.{Design}
+use Rattle.ap_desc.specs.declared.design.Field.{Field}
 use Rattle.ap_desc.specs.declared.design.File.{File}
 use Rattle.ap_desc.specs.declared.design.Format.{Format}
 use Rattle.ap_desc.specs.declared.design.Unit.{Unit as Resource}
@@ -26,7 +28,7 @@ use Rattle.ap_desc.specs.Sound.{are_distinct}
 use Rattle.ap_desc.specs.Spelling.{field_names}
 use Rattle.ap_check.specs.Known.{IsOpen, KnowsNames, has_kind, operations_of, ports_of, tables_of}
 use Rattle.ap_check.specs.Phases.{IsFaultOf}
-use Rattle.ap_check.specs.Tables.{first_name_fault, name_fault, is_local_taken, is_no_guard, is_no_operand, is_no_read_port, is_no_write_port, is_part, is_twice, is_unknown, is_without, names_at, open_fields, ports_at}
+use Rattle.ap_check.specs.Tables.{first_name_fault, name_fault, is_local_taken, is_no_guard, is_no_operand, is_no_operation, is_no_read_port, is_no_write_port, is_part, is_twice, is_unknown, is_without, names_at, open_fields, ports_at}
 use Rattle.ap_check.specs.declared.declared.Declared.{Declared}
 use Rattle.ap_check.specs.declared.declared.Ports.{Ports}
 use Rattle.ap_desc.specs.StatementFaults.{is_faulty}
