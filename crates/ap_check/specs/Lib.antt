@@ -1,0 +1,11 @@
+pub mod Added
+pub mod Drafts
+pub mod FixedBits
+pub mod Known
+pub mod Names
+pub mod Numbers
+pub mod Phases
+pub mod Resolved
+pub mod Tables
+pub mod Uses
+pub mod Taking
