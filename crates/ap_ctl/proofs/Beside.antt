@@ -1,0 +1,63 @@
+-- Lists beside each other, and by number.
+use Rattle.std.proofs.Common.{◌≡◌, ℕ, zero, suc, ◌+◌, ◌<◌, List, [], ◌∷◌, ◌++◌, length, get_or, map, Some, refl, sym, ap, subst, ◌∙◌, arith}
+use Rattle.std.specs.Prelude.{slice_get}
+use Rattle.std.specs.List.{AllByRecursion as Each, range_with_len}
+use Rattle.ap_ctl.specs.Lists.{EachFrom, EachPair}
+
+pub EachPair-weaker : {X Y : Type 0} (P Q : X → Y → Type 0) → ((x : X) (y : Y) → P x y → Q x y) → (xs : List X) (ys : List Y) → EachPair P xs ys → EachPair Q xs ys
+EachPair-weaker P Q f [] [] h = tt
+EachPair-weaker P Q f [] (y ∷ ys) h = absurd h
+EachPair-weaker P Q f (x ∷ xs) [] h = absurd h
+EachPair-weaker P Q f (x ∷ xs) (y ∷ ys) h = (f x y h.0, EachPair-weaker P Q f xs ys h.1)
+
+pub EachPair-push : {X Y : Type 0} (P : X → Y → Type 0) (xs : List X) (ys : List Y) (x : X) (y : Y) → EachPair P xs ys → P x y → EachPair P (xs ++ x ∷ []) (ys ++ y ∷ [])
+EachPair-push P [] [] x y h p = (p, tt)
+EachPair-push P [] (z ∷ ys) x y h p = absurd h
+EachPair-push P (z ∷ xs) [] x y h p = absurd h
+EachPair-push P (w ∷ xs) (z ∷ ys) x y h p = (h.0, EachPair-push P xs ys x y h.1 p)
+
+pub EachPair-at : {X Y : Type 0} (P : X → Y → Type 0) (xs : List X) (ys : List Y) → EachPair P xs ys → (i : ℕ) (x : X) (y : Y) → slice_get xs i ≡ Some x → slice_get ys i ≡ Some y → P x y
+EachPair-at P [] ys h i x y at there = cc
+EachPair-at P (w ∷ xs) [] h i x y at there = absurd h
+EachPair-at P (w ∷ xs) (z ∷ ys) h zero x y at there =
+    let one : w ≡ x = cc in
+    let other : z ≡ y = cc in
+    subst (P x) other (subst (λ v. P v z) one h.0)
+EachPair-at P (w ∷ xs) (z ∷ ys) h (suc i) x y at there = EachPair-at P xs ys h.1 i x y at there
+
+pub EachPair-length : {X Y : Type 0} (P : X → Y → Type 0) (xs : List X) (ys : List Y) → EachPair P xs ys → length ys ≡ length xs
+EachPair-length P [] [] h = refl
+EachPair-length P [] (y ∷ ys) h = absurd h
+EachPair-length P (x ∷ xs) [] h = absurd h
+EachPair-length P (x ∷ xs) (y ∷ ys) h = ap suc (EachPair-length P xs ys h.1)
+
+-- what holds of each pair gives what holds of each second
+pub EachPair-second : {X Y : Type 0} (P : X → Y → Type 0) (Q : Y → Type 0) → ((x : X) (y : Y) → P x y → Q y) → (xs : List X) (ys : List Y) → EachPair P xs ys → Each Q ys
+EachPair-second P Q f [] [] h = tt
+EachPair-second P Q f [] (y ∷ ys) h = absurd h
+EachPair-second P Q f (x ∷ xs) [] h = absurd h
+EachPair-second P Q f (x ∷ xs) (y ∷ ys) h = (f x y h.0, EachPair-second P Q f xs ys h.1)
+
+pub EachFrom-weaker : {X : Type 0} (P Q : ℕ → X → Type 0) → ((n : ℕ) (x : X) → P n x → Q n x) → (n : ℕ) (xs : List X) → EachFrom P n xs → EachFrom Q n xs
+EachFrom-weaker P Q f n [] h = tt
+EachFrom-weaker P Q f n (x ∷ xs) h = (f n x h.0, EachFrom-weaker P Q f (n + 1) xs h.1)
+
+pub EachFrom-push : {X : Type 0} (P : ℕ → X → Type 0) (n : ℕ) (xs : List X) (x : X) → EachFrom P n xs → P (n + length xs) x → EachFrom P n (xs ++ x ∷ [])
+EachFrom-push P n [] x h p = let here : n + 0 ≡ n = omega arith in (subst (λ m. P m x) here p, tt)
+EachFrom-push P n (y ∷ xs) x h p = let next : n + suc (length xs) ≡ n + 1 + length xs = omega arith in (h.0, EachFrom-push P (n + 1) xs x h.1 (subst (λ m. P m x) next p))
+
+pub EachFrom-at : {X : Type 0} (P : ℕ → X → Type 0) (n : ℕ) (xs : List X) → EachFrom P n xs → (i : ℕ) (x : X) → slice_get xs i ≡ Some x → P (n + i) x
+EachFrom-at P n [] h i x at = cc
+EachFrom-at P n (y ∷ xs) h zero x at = let here : y ≡ x = cc in let same : n ≡ n + 0 = omega arith in subst (λ m. P m x) same (subst (P n) here h.0)
+EachFrom-at P n (y ∷ xs) h (suc i) x at = let next : n + 1 + i ≡ n + suc i = omega arith in subst (λ m. P m x) next (EachFrom-at P (n + 1) xs h.1 i x at)
+
+pub EachFrom-second : {X : Type 0} (P : ℕ → X → Type 0) (Q : X → Type 0) → ((n : ℕ) (x : X) → P n x → Q x) → (n : ℕ) (xs : List X) → EachFrom P n xs → Each Q xs
+EachFrom-second P Q f n [] h = tt
+EachFrom-second P Q f n (x ∷ xs) h = (f n x h.0, EachFrom-second P Q f (n + 1) xs h.1)
+
+-- one more number at the end
+pub range-push : (a n : ℕ) → range_with_len a (n + 1) ≡ range_with_len a n ++ (a + n) ∷ []
+range-push a zero = let same : a + 0 ≡ a = omega arith in ap (λ m. m ∷ []) (sym same)
+range-push a (suc n) =
+    let next : a + 1 + n ≡ a + suc n = omega arith in
+    ap (λ l. a ∷ l) (range-push (a + 1) n ∙ ap (λ m. range_with_len (a + 1) n ++ m ∷ []) next)
