@@ -1,6 +1,7 @@
 -- Lists beside each other, and by number.
-use Rattle.std.proofs.Common.{◌≡◌, ℕ, zero, suc, ◌+◌, ◌<◌, List, [], ◌∷◌, ◌++◌, length, get_or, map, Some, refl, sym, ap, subst, ◌∙◌, arith}
+use Rattle.std.proofs.Common.{◌≡◌, ℕ, zero, suc, ◌+◌, ◌<◌, ◌≤◌, List, [], ◌∷◌, ◌++◌, length, get_or, map, take, Some, refl, sym, ap, subst, ◌∙◌, arith}
 use Rattle.std.specs.Prelude.{slice_get}
+use Rattle.std.proofs.lemmas.Option.{slice_get-get_or}
 use Rattle.std.specs.List.{AllByRecursion as Each, range_with_len}
 use Rattle.ap_ctl.specs.Lists.{EachFrom, EachPair}
 
@@ -61,3 +62,27 @@ range-push a zero = let same : a + 0 ≡ a = omega arith in ap (λ m. m ∷ []) 
 range-push a (suc n) =
     let next : a + 1 + n ≡ a + suc n = omega arith in
     ap (λ l. a ∷ l) (range-push (a + 1) n ∙ ap (λ m. range_with_len (a + 1) n ++ m ∷ []) next)
+
+pub each_index : {X : Type 0} (P : X → Type 0) (xs : List X) (i : ℕ) (d : X) → Each P xs → i < length xs → P (get_or xs i d)
+each_index P [] i d h lt = absurd (omega arith)
+each_index P (x ∷ xs) zero d h lt = h.0
+each_index P (x ∷ xs) (suc i) d h lt = each_index P xs i d h.1 (omega arith)
+
+pub each_get : {X : Type 0} (P : X → Type 0) (xs : List X) (i : ℕ) (x : X) → Each P xs → slice_get xs i ≡ Some x → P x
+each_get P [] i x h at = absurd cc
+each_get P (y ∷ xs) zero x h at = let same : y ≡ x = cc in subst P same h.0
+each_get P (y ∷ xs) (suc i) x h at = each_get P xs i x h.1 at
+
+-- the element that a loop is at
+pub item_at : {X : Type 0} (ys xs : List X) (i : ℕ) (x : X) → ys ≡ xs → i < length ys → x ≡ get_or ys i x → slice_get xs i ≡ Some x
+item_at ys xs i x same low is = ap (λ zs. slice_get zs i) (sym same) ∙ slice_get-get_or ys i x low ∙ ap Some (sym is)
+
+pub take_item : {X : Type 0} (xs : List X) (i : ℕ) (x : X) → slice_get xs i ≡ Some x → take (i + 1) xs ≡ take i xs ++ x ∷ []
+take_item [] i x at = absurd cc
+take_item (y ∷ xs) zero x at = let same : y ≡ x = cc in ap (λ z. z ∷ []) same
+take_item (y ∷ xs) (suc i) x at = ap (λ l. y ∷ l) (take_item xs i x at)
+
+-- with the numbers that occur
+pub EachFrom-within : {X : Type 0} (P Q : ℕ → X → Type 0) (n : ℕ) (xs : List X) → ((m : ℕ) (x : X) → n ≤ m → m < n + length xs → P m x → Q m x) → EachFrom P n xs → EachFrom Q n xs
+EachFrom-within P Q n [] f h = tt
+EachFrom-within P Q n (x ∷ xs) f h = (f n x (omega arith) (omega arith) h.0, EachFrom-within P Q (n + 1) xs (λ m y a b. f m y (omega arith) (omega arith)) h.1)

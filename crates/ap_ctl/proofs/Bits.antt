@@ -1,8 +1,8 @@
 -- What the gates tell.
-use Rattle.std.proofs.Common.{◌≡◌, ℕ, zero, suc, ◌+◌, ◌-◌, ◌^◌, ◌<◌, Bool, true, false, List, [], ◌∷◌, ◌++◌, refl, sym, ap, subst, ◌∙◌, arith}
+use Rattle.std.proofs.Common.{◌≡◌, ℕ, zero, suc, ◌+◌, ◌-◌, ◌^◌, ◌<◌, Bool, true, false, List, [], ◌∷◌, ◌++◌, ◌/◌, ◌%◌, ◌≤◌, length, get_or, take, drop, length-drop, refl, sym, ap, subst, ◌∙◌, arith}
 use Rattle.std.specs.Prelude.{◌==◌, ◌&&◌, ◌||◌, not, bit_and, bit_or, if◌then◌else◌}
 use Rattle.std.specs.List.{AllByRecursion as Each, list_all, list_any}
-use Rattle.std.proofs.lemmas.List.Folds.{list_all-append, list_any-append}
+use Rattle.std.proofs.lemmas.List.{take_all}
 use Rattle.ap_net.specs.declared.cell.Cell.TheVariants as cell
 use Rattle.ap_net.specs.declared.cell.TwoOp.TheVariants as op
 use Rattle.ap_net.specs.declared.cell.Wire.{Wire}
@@ -92,3 +92,76 @@ alone_all d w h = record { net = h.net; wide = h.bit; means = record { holds = �
 
 pub alone_any : (d : Draft) (w : Wire) → IsBit d.nets w → Tells d (λ r. list_any (is_on r) (w ∷ [])) w
 alone_any d w h = record { net = h.net; wide = h.bit; means = record { holds = λ r s. bit_of d w r h s ∙ ap bit (or_alone (is_on r w)) } }
+
+-- No nets.
+
+pub none_all : {d : Draft} (nets : List Wire) (w : Wire) → length nets ≡ 0 → Carries d 1 (λ r x. x ≡ 1) w → Tells d (λ r. list_all (is_on r) nets) w
+none_all [] w e h = h
+none_all (x ∷ nets) w e h = absurd (omega arith)
+
+pub none_any : {d : Draft} (nets : List Wire) (w : Wire) → length nets ≡ 0 → Carries d 1 (λ r x. x ≡ 0) w → Tells d (λ r. list_any (is_on r) nets) w
+none_any [] w e h = h
+none_any (x ∷ nets) w e h = absurd (omega arith)
+
+-- One net.
+
+pub one_all : (d : Draft) (nets : List Wire) (x : Wire) → length nets ≡ 1 → Each (IsBit d.nets) nets → Tells d (λ r. list_all (is_on r) nets) (get_or nets 0 x)
+one_all d [] x e h = absurd (omega arith)
+one_all d (w ∷ []) x e h = alone_all d w h.0
+one_all d (w ∷ v ∷ nets) x e h = absurd (omega arith)
+
+pub one_any : (d : Draft) (nets : List Wire) (x : Wire) → length nets ≡ 1 → Each (IsBit d.nets) nets → Tells d (λ r. list_any (is_on r) nets) (get_or nets 0 x)
+one_any d [] x e h = absurd (omega arith)
+one_any d (w ∷ []) x e h = alone_any d w h.0
+one_any d (w ∷ v ∷ nets) x e h = absurd (omega arith)
+
+-- Two halves.
+
+pub Each-take : {X : Type 0} (P : X → Type 0) (n : ℕ) (xs : List X) → Each P xs → Each P (take n xs)
+Each-take P zero xs h = tt
+Each-take P (suc n) [] h = tt
+Each-take P (suc n) (x ∷ xs) h = (h.0, Each-take P n xs h.1)
+
+pub Each-drop : {X : Type 0} (P : X → Type 0) (n : ℕ) (xs : List X) → Each P xs → Each P (drop n xs)
+Each-drop P zero xs h = h
+Each-drop P (suc n) [] h = tt
+Each-drop P (suc n) (x ∷ xs) h = Each-drop P n xs h.1
+
+and_joined : (a b c : Bool) → (a && (b && c)) ≡ ((a && b) && c)
+and_joined true b c = refl
+and_joined false b c = refl
+
+or_joined : (a b c : Bool) → (a || (b || c)) ≡ ((a || b) || c)
+or_joined true b c = refl
+or_joined false b c = refl
+
+all_split : {X : Type 0} (p : X → Bool) (n : ℕ) (xs : List X) → list_all p xs ≡ (list_all p (take n xs) && list_all p (drop n xs))
+all_split p zero xs = refl
+all_split p (suc n) [] = refl
+all_split p (suc n) (x ∷ xs) = ap (λ b. p x && b) (all_split p n xs) ∙ and_joined (p x) (list_all p (take n xs)) (list_all p (drop n xs))
+
+any_split : {X : Type 0} (p : X → Bool) (n : ℕ) (xs : List X) → list_any p xs ≡ (list_any p (take n xs) || list_any p (drop n xs))
+any_split p zero xs = refl
+any_split p (suc n) [] = refl
+any_split p (suc n) (x ∷ xs) = ap (λ b. p x || b) (any_split p n xs) ∙ or_joined (p x) (list_any p (take n xs)) (list_any p (drop n xs))
+
+second_half : {X : Type 0} (n : ℕ) (xs : List X) → take (length xs - n) (drop n xs) ≡ drop n xs
+second_half n xs = take_all (length xs - n) (drop n xs) (omega (arith, length-drop n xs))
+
+pub all_halves : {X : Type 0} (p : X → Bool) (n : ℕ) (xs : List X) → (list_all p (take n xs) && list_all p (take (length xs - n) (drop n xs))) ≡ list_all p xs
+all_halves p n xs = ap (λ l. list_all p (take n xs) && list_all p l) (second_half n xs) ∙ sym (all_split p n xs)
+
+pub any_halves : {X : Type 0} (p : X → Bool) (n : ℕ) (xs : List X) → (list_any p (take n xs) || list_any p (take (length xs - n) (drop n xs))) ≡ list_any p xs
+any_halves p n xs = ap (λ l. list_any p (take n xs) || list_any p l) (second_half n xs) ∙ sym (any_split p n xs)
+
+-- a test of a field, by its cells
+pub tested : (x b w low width value : ℕ) → 1 ≤ width → b ≡ (x / 2 ^ low) % 2 ^ (low + width - 1 + 1 - low) → w ≡ value → (if b == w then 1 else 0) ≡ bit ((x / 2 ^ low) % 2 ^ width == value)
+tested x b w low width value some bits wanted =
+    let e : low + width - 1 + 1 - low ≡ width = omega arith in
+    ap (λ n. if n == w then 1 else 0) (bits ∙ ap (λ k. (x / 2 ^ low) % 2 ^ k) e) ∙ ap (λ n. if (x / 2 ^ low) % 2 ^ width == n then 1 else 0) wanted
+
+pub joined_all : {p q a b : Bool} → p ≡ a → q ≡ b → (p && q) ≡ (a && b)
+joined_all {p} {q} {a} {b} e f = ap (λ x. x && q) e ∙ ap (λ x. a && x) f
+
+pub joined_any : {p q a b : Bool} → p ≡ a → q ≡ b → (p || q) ≡ (a || b)
+joined_any {p} {q} {a} {b} e f = ap (λ x. x || q) e ∙ ap (λ x. a || x) f

@@ -3,5 +3,9 @@ pub mod Bits
 pub mod Border
 pub mod Built
 pub mod Chosen
+pub mod Decoded
 pub mod Fields
+pub mod Firing
+pub mod Rest
+pub mod Stages
 pub mod Tests

@@ -2,6 +2,7 @@
 ghost use Rattle.std.specs.Prelude.{◌≡◌, ◌∷◌, ◌++◌, ◌&&◌, ◌||◌, ◌+◌, ◌-◌, ◌<◌, ◌≤◌, ◌==◌, ℕ, IfOk, OnOk, length, map};
 ghost use Rattle.std.specs.List.{AllByRecursion as Each, list_any, range_with_len};
 ghost use Rattle.ap_desc.specs.Clean.{IsClean};
+ghost use Rattle.ap_desc.specs.declared.design.Instr.{Instr};
 ghost use Rattle.ap_desc.specs.declared.design.Micro.{Micro};
 ghost use Rattle.ap_model.specs.Stalls.{is_memory_line};
 ghost use Rattle.ap_model.specs.UnitUse.{is_use_of, latency_of};
@@ -9,16 +10,17 @@ ghost use Rattle.ap_net.specs.Draft.{CanFresh};
 ghost use Rattle.ap_net.specs.Readings.{Always};
 ghost use Rattle.ap_net.specs.Ready.{numbers};
 ghost use Rattle.ap_ctl.specs.Building.{Gives, GivesEach, IsBit, Tells, is_on};
-ghost use Rattle.ap_ctl.specs.Given.{IsGiven, has_memory_line_in, holding, is_used_in, memory_nets, slow_units, unit_nets};
+ghost use Rattle.ap_ctl.specs.Given.{IsGiven, has_memory_line_in, is_used_in, memory_nets, slow_units, unit_nets};
 ghost use Rattle.ap_ctl.specs.Lists.{EachFrom, EachPair};
 ghost use Rattle.ap_ctl.specs.Meaning.{Look, Sees, is_busy, is_held};
-ghost use Rattle.ap_ctl.specs.Moves.{conditions_of};
+ghost use Rattle.ap_ctl.specs.Moves.{busy_numbers, stage_numbers};
 ghost use Rattle.ap_ctl.specs.Nets.{AreDecoded, Shows};
 
 use crate::gate::{any_of, both};
 use crate::nets::ControlGiven;
 use ap_bits::{Items, NoMemory};
 use ap_desc::design::{Act, Design, Instr};
+use ap_desc::laws::clean_is_encoded;
 use ap_net::builder::Builder;
 use ap_net::cell::Wire;
 use std::alloc::{AllocError, Global};
@@ -64,13 +66,21 @@ fn is_used_by(instr: &Instr, stage: u32, unit: u32) -> bool
     micros.any(|m| m.stage == stage && is_use_of(unit, m.act))
 }
 
+/// Whether some instruction uses the unit in the stage.
+fn some_uses(design: &Design, stage: u32, unit: u32) -> bool
+    ensures { result ≡ list_any (λ (i : Instr).
+        list_any (λ (m : Micro). (m.stage == stage) && is_use_of unit m.act) i.micros)
+        design.now.instrs }
+{
+    let mut instrs = design.instrs.as_slice().iter();
+    instrs.any(|i| is_used_by(i, stage, unit))
+}
+
 /// Whether a line of this stage uses the unit.
 fn is_used_in(design: &Design, stage: u32, unit: u32) -> bool
     ensures { result ≡ is_used_in design.now stage unit }
 {
-    let mut instrs = design.instrs.as_slice().iter();
-    let used = instrs.any(|i| is_used_by(i, stage, unit));
-    used
+    some_uses(design, stage, unit)
 }
 
 /// The busy nets of the units that the stage uses.
@@ -146,8 +156,8 @@ fn waits(
     ensures gives { IfOk result (Gives (mwait.number ∷ valid.number ∷ numbers conditions.now)
         out.old out.new) }
 {
-    let hit = any_of(out, conditions)?;
     let waiting = both(out, mwait, valid)?;
+    let hit = any_of(out, conditions)?;
     let waits = both(out, waiting, hit)?;
     Ok(waits)
 }
@@ -171,16 +181,17 @@ fn stage_nets(
         ≡ (list_any (is_on r) (unit_nets design.now stage given.now.busy)
         || (is_on r given.now.mwait && is_on r valid
         && list_any (is_on r) (memory_nets design.now stage conditions.now))))) }
-    ensures gives { IfOk result (GivesEach
-        (valid.number ∷ numbers conditions.now ++ holding given.now) out.old out.new) }
+    ensures gives { IfOk result (GivesEach (stage_numbers valid conditions.now given.now)
+        out.old out.new) }
 {
     let alloc = out.allocator();
     let mut nets = unit_nets(alloc, design, stage, given.busy.as_slice())?;
     let readers = memory_nets(alloc, design, stage, conditions)?;
-    if !readers.is_empty() {
-        let wait = waits(out, given.mwait, valid, readers.as_slice())?;
-        nets.push(wait)?;
+    if readers.is_empty() {
+        return Ok(nets);
     }
+    let wait = waits(out, given.mwait, valid, readers.as_slice())?;
+    nets.push(wait)?;
     Ok(nets)
 }
 
@@ -213,9 +224,10 @@ fn busy_nets(
         → Sees design.now given.now valid.now r look
         → list_any (is_on r) nets ≡ list_any (λ b. b)
         (map (is_busy design.now look) (range_with_len 1 (design.now.stages - 1))))) }
-    ensures gives { IfOk result (GivesEach (conditions_of valid.now decoded.now given.now)
+    ensures gives { IfOk result (GivesEach (busy_numbers valid.now decoded.now given.now)
         out.old out.new) }
 {
+    clean_is_encoded();
     let mut nets = Items::new(out.allocator());
     for place in 0..valid.len() {
         let stage = place as u32 + 1;
@@ -242,7 +254,7 @@ pub fn hold(
     requires decoded { EachPair (AreDecoded design.now out.old) given.now.words decoded.now }
     ensures shows { IfOk result (λ w. (stage : ℕ)
         → Shows design.now given.now valid.now out.new (λ look. is_held design.now look stage) w) }
-    ensures gives { IfOk result (Gives (conditions_of valid.now decoded.now given.now)
+    ensures gives { IfOk result (Gives (busy_numbers valid.now decoded.now given.now)
         out.old out.new) }
 {
     let nets = busy_nets(out, design, given, valid, decoded)?;

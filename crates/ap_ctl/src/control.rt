@@ -14,7 +14,7 @@ ghost use Rattle.ap_ctl.specs.Nets.{AddsControl, FollowsGiven, HasNoValid, IsCon
 
 use crate::busy::hold;
 use crate::decode::decoded;
-use crate::move_on::{Gates, fires, gates, next_valid};
+use crate::move_on::{Gates, fires, make_gates, next_valid};
 use crate::nets::{ControlGiven, ControlNets};
 use ap_bits::{Items, NoMemory};
 use ap_desc::design::Design;
@@ -79,7 +79,7 @@ struct Made {
 }
 
 /// Makes all nets of control but the valid bits.
-fn made(
+fn make_rest(
     out: &mut Builder,
     design: &Design,
     given: &ControlGiven,
@@ -96,7 +96,7 @@ fn made(
 {
     let decoded = decoded(out, design, given.words.as_slice())?;
     let hold = hold(out, design, given, valid, decoded.as_slice())?;
-    let gates = gates(out, hold, given.taken)?;
+    let gates = make_gates(out, hold, given.taken)?;
     let fires = fires(out, design, gates, valid)?;
     let next = next_valid(out, design, gates, valid, fires.as_slice())?;
     Ok(Made {
@@ -123,7 +123,7 @@ pub fn control(design: &Design, given: &ControlGiven, out: &mut Builder) -> Resu
     out.rules();
     let alloc = out.allocator();
     let valid = valid_bits(out, design.stages - 1)?;
-    let made = made(out, design, given, valid.as_slice())?;
+    let made = make_rest(out, design, given, valid.as_slice())?;
     let Made {
         decoded,
         gates,

@@ -1,10 +1,11 @@
 //! Which instructions the word of a stage matches. A test of a field is made once for a stage, and shared by all instructions that
 //! fix the field to the value.
-ghost use Rattle.std.specs.Prelude.{◌≡◌, ◌∷◌, [], ◌+◌, ◌^◌, ◌<◌, ◌≤◌, IfOk, OnOk, map, filter};
+ghost use Rattle.std.specs.Prelude.{◌≡◌, ◌∷◌, [], ◌+◌, ◌^◌, ◌<◌, ◌≤◌, IfOk, OnOk, map, filter, flat_map};
 ghost use Rattle.std.specs.List.{AllByRecursion as Each, list_all, list_any};
 ghost use Rattle.ap_desc.specs.Clean.{IsClean};
 ghost use Rattle.ap_net.specs.Cells.{IsNet};
 ghost use Rattle.ap_net.specs.Draft.{CanFresh};
+ghost use Rattle.ap_net.specs.Pending.{IsFrom};
 ghost use Rattle.ap_net.specs.Ready.{numbers};
 ghost use Rattle.ap_ctl.specs.Building.{Builds, Gives, GivesEach, Tells};
 ghost use Rattle.ap_ctl.specs.Decoding.{field_tests, is_same_test, passes, tests_of, FitsWord, IsCompared, is_wanted, compared_net};
@@ -16,6 +17,7 @@ use crate::field::{FieldTest, field_tests, is_among, tests_of};
 use crate::gate::all_of;
 use ap_bits::{Items, NoMemory};
 use ap_desc::design::Design;
+use ap_desc::laws::clean_is_encoded;
 use ap_net::builder::Builder;
 use ap_net::cell::{Cell, TwoOp, Wire};
 use std::alloc::{AllocError, Global};
@@ -110,6 +112,7 @@ fn conditions(
     ensures tells { IfOk result (AreDecoded design.now out.new word) }
     ensures gives { IfOk result (GivesEach (word.number ∷ []) out.old out.new) }
 {
+    clean_is_encoded();
     let alloc = out.allocator();
     let made = compare_all(out, word, tests)?;
     let mut conditions = Items::new(alloc);
@@ -128,6 +131,8 @@ pub fn decoded(out: &mut Builder, design: &Design, words: &[Wire]) -> Result<Ite
     requires words { Each (IsWordNet design.now out.old.nets) words.now }
     ensures tells { IfOk result (EachPair (AreDecoded design.now out.new) words.now) }
     ensures builds { OnOk result (Builds (numbers words.now) out.old out.new) }
+    ensures came { IfOk result (λ lists.
+        Each (IsFrom (numbers words.now) out.old out.new) (flat_map numbers lists)) }
     ensures follows { IfOk result (EachPair (FollowsWord out.new) words.now) }
 {
     let alloc = out.allocator();

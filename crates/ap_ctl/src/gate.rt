@@ -57,16 +57,6 @@ pub fn chosen(out: &mut Builder, s: Wire, a: Wire, b: Wire) -> Result<Wire, NoMe
     Ok(chosen)
 }
 
-/// A net that is always 1, or always 0.
-pub fn always(out: &mut Builder, on: bool) -> Result<Wire, NoMemory>
-    requires fresh { CanFresh out.old }
-    ensures tells { IfOk result (Tells out.new (λ r. on)) }
-    ensures gives { IfOk result (Gives [] out.old out.new) }
-{
-    let constant = out.make(1, Cell::Const(u64::from(on)))?;
-    Ok(constant)
-}
-
 /// Whether all these nets are 1: a balanced tree of `&`.
 pub fn all_of(out: &mut Builder, nets: &[Wire]) -> Result<Wire, NoMemory>
     requires fresh { CanFresh out.old }
@@ -75,7 +65,7 @@ pub fn all_of(out: &mut Builder, nets: &[Wire]) -> Result<Wire, NoMemory>
     ensures gives { IfOk result (Gives (numbers nets.now) out.old out.new) }
 {
     if nets.is_empty() {
-        let on = always(out, true)?;
+        let on = out.make(1, Cell::Const(1))?;
         return Ok(on);
     }
     if nets.len() == 1 {
@@ -96,7 +86,7 @@ pub fn any_of(out: &mut Builder, nets: &[Wire]) -> Result<Wire, NoMemory>
     ensures gives { IfOk result (Gives (numbers nets.now) out.old out.new) }
 {
     if nets.is_empty() {
-        let off = always(out, false)?;
+        let off = out.make(1, Cell::Const(0))?;
         return Ok(off);
     }
     if nets.len() == 1 {

@@ -12,5 +12,4 @@ pub mod move_on;
 pub mod nets;
 
 pub use ap_bits::NoMemory;
-pub use control::control;
 pub use nets::{ControlGiven, ControlNets};

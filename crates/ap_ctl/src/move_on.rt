@@ -1,12 +1,13 @@
 //! Which flights fire, and where words are in the next cycle.
-ghost use Rattle.std.specs.Prelude.{◌≡◌, ◌∷◌, ◌++◌, ◌&&◌, ◌+◌, ◌-◌, ◌<◌, not, if◌then◌else◌, ℕ, IfOk, OnOk, length};
+ghost use Rattle.std.specs.Prelude.{◌≡◌, ◌∷◌, ◌++◌, ◌&&◌, ◌+◌, ◌-◌, ◌<◌, ◌≤◌, [], not, if◌then◌else◌, Contains, IfOk, length};
 ghost use Rattle.std.specs.List.{AllByRecursion as Each};
-ghost use Rattle.ap_net.specs.Draft.{CanFresh, Draft};
+ghost use Rattle.ap_net.specs.Draft.{CanFresh};
 ghost use Rattle.ap_net.specs.Ready.{numbers};
-ghost use Rattle.ap_ctl.specs.Building.{Builds, GivesEach, IsBit, Tells, is_on};
+ghost use Rattle.ap_net.specs.Readings.{Reading};
+ghost use Rattle.ap_ctl.specs.Building.{GivesEach, IsBit, Tells, is_on};
 ghost use Rattle.ap_ctl.specs.Lists.{EachFrom};
 ghost use Rattle.ap_ctl.specs.Meaning.{is_killable};
-ghost use Rattle.ap_ctl.specs.Moves.{AreGates, fire_of, next_of, gate_numbers};
+ghost use Rattle.ap_ctl.specs.Moves.{AreGates, coming_of, fire_of, next_numbers, next_of};
 
 use crate::gate::{both, chosen, inverse};
 use ap_bits::{Items, NoMemory};
@@ -28,7 +29,7 @@ pub struct Gates {
 }
 
 /// The gates of a cycle, where `hold` says whether the stages are held and `taken` whether a transfer is taken if they aren't.
-pub fn gates(out: &mut Builder, hold: Wire, taken: Wire) -> Result<Gates, NoMemory>
+pub fn make_gates(out: &mut Builder, hold: Wire, taken: Wire) -> Result<Gates, NoMemory>
     requires fresh { CanFresh out.old }
     requires hold { IsBit out.old.nets hold }
     requires taken { IsBit out.old.nets taken }
@@ -87,6 +88,18 @@ pub fn fires(
     Ok(nets)
 }
 
+/// Whether a word comes to the stage after so many: the fetched one, or that of the stage before.
+fn coming(design: &Design, gates: Gates, fires: &[Wire], place: usize) -> Wire
+    requires { place ≤ length fires.now }
+    ensures one { Contains (gates.goes ∷ gates.lives ∷ fires.now) result }
+    ensures value { (r : Reading) → is_on r result ≡ coming_of design.now gates fires.now place r }
+{
+    if place == 0 {
+        return passing(design, gates, 0);
+    }
+    fires[place - 1]
+}
+
 /// Whether there is a word in each stage in the next cycle.
 pub fn next_valid(
     out: &mut Builder,
@@ -106,17 +119,13 @@ pub fn next_valid(
     ensures long { IfOk result (λ nets. length nets ≡ length valid.now) }
     ensures tells { IfOk result (λ nets. EachFrom (λ stage w. Tells out.new
         (next_of design.now gates valid.now fires.now stage) w) 1 nets) }
-    ensures gives { IfOk result (GivesEach
-        (gate_numbers gates ++ numbers valid.now ++ numbers fires.now) out.old out.new) }
+    ensures gives { IfOk result (GivesEach (next_numbers gates valid.now fires.now)
+        out.old out.new) }
 {
     let mut nets = Items::new(out.allocator());
     for place in 0..valid.len() {
-        let coming = if place == 0 {
-            passing(design, gates, 0)
-        } else {
-            fires[place - 1]
-        };
-        let next = chosen(out, gates.hold, valid[place], coming)?;
+        let from = coming(design, gates, fires, place);
+        let next = chosen(out, gates.hold, valid[place], from)?;
         nets.push(next)?;
     }
     Ok(nets)
