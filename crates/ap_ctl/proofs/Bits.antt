@@ -33,17 +33,20 @@ bit_on true = refl
 bit_on false = refl
 
 pub on_of : {d : Draft} {fact : Reading → Bool} {w : Wire} → Tells d fact w → (r : Reading) → IsSettled d r → is_on r w ≡ fact r
-on_of {d} {fact} {w} h r s = ap (λ n. n == 1) (h.means.holds r s) ∙ bit_on (fact r)
+on_of {d} {fact} {w} h r s = ap (λ n. n == 1) (h.carries.means.holds r s) ∙ bit_on (fact r)
 
 pub IsBit-Tells : {d : Draft} {fact : Reading → Bool} {w : Wire} → Tells d fact w → IsBit d.nets w
-IsBit-Tells h = record { net = h.net; bit = h.wide }
+IsBit-Tells h = record { net = h.carries.net; bit = h.carries.wide }
+
+pub IsBit-Carries : {d : Draft} {M : Reading → ℕ → Type 0} {w : Wire} → Carries d 1 M w → IsBit d.nets w
+IsBit-Carries h = record { net = h.net; bit = h.wide }
 
 pub IsBit-Makes : (a b : Draft) (w : Wire) → Makes a b → IsBit a.nets w → IsBit b.nets w
 IsBit-Makes a b w m h = record { net = IsNet-Makes a b w m h.net; bit = h.bit }
 
 -- what tells a fact tells one that is the same
 pub told : {d : Draft} {fact other : Reading → Bool} {w : Wire} → ((r : Reading) → IsSettled d r → fact r ≡ other r) → Tells d fact w → Tells d other w
-told {d} {fact} {other} {w} f h = meant (λ r s e. e ∙ ap bit (f r s)) h
+told {d} {fact} {other} {w} f h = record { carries = meant (λ r s e. e ∙ ap bit (f r s)) h.carries }
 
 not_bit : (p : Bool) → 2 ^ 1 - 1 - bit p ≡ bit (not p)
 not_bit true = refl
@@ -67,16 +70,16 @@ choice_bits false p q = refl
 
 module _ {a b : Draft} (m : Makes a b) where
   pub not_tells : (x w : Wire) → IsBit a.nets x → Carries b 1 (λ r v. v ≡ cell_value r.read 1 (cell.Not x)) w → Tells b (λ r. not (is_on r x)) w
-  not_tells x w hx h = meant (λ r s e. e ∙ ap (λ n. 2 ^ 1 - 1 - n) (bit_of b x r (IsBit-Makes a b x m hx) s) ∙ not_bit (is_on r x)) h
+  not_tells x w hx h = record { carries = meant (λ r s e. e ∙ ap (λ n. 2 ^ 1 - 1 - n) (bit_of b x r (IsBit-Makes a b x m hx) s) ∙ not_bit (is_on r x)) h }
 
   pub and_tells : (x y w : Wire) → IsBit a.nets x → IsBit a.nets y → Carries b 1 (λ r v. v ≡ cell_value r.read 1 (cell.Two op.And x y)) w → Tells b (λ r. is_on r x && is_on r y) w
-  and_tells x y w hx hy h = meant (λ r s e. e ∙ ap (λ n. bit_and n (r.read y.number)) (bit_of b x r (IsBit-Makes a b x m hx) s) ∙ ap (bit_and (bit (is_on r x))) (bit_of b y r (IsBit-Makes a b y m hy) s) ∙ and_bits (is_on r x) (is_on r y)) h
+  and_tells x y w hx hy h = record { carries = meant (λ r s e. e ∙ ap (λ n. bit_and n (r.read y.number)) (bit_of b x r (IsBit-Makes a b x m hx) s) ∙ ap (bit_and (bit (is_on r x))) (bit_of b y r (IsBit-Makes a b y m hy) s) ∙ and_bits (is_on r x) (is_on r y)) h }
 
   pub or_tells : (x y w : Wire) → IsBit a.nets x → IsBit a.nets y → Carries b 1 (λ r v. v ≡ cell_value r.read 1 (cell.Two op.Or x y)) w → Tells b (λ r. is_on r x || is_on r y) w
-  or_tells x y w hx hy h = meant (λ r s e. e ∙ ap (λ n. bit_or n (r.read y.number)) (bit_of b x r (IsBit-Makes a b x m hx) s) ∙ ap (bit_or (bit (is_on r x))) (bit_of b y r (IsBit-Makes a b y m hy) s) ∙ or_bits (is_on r x) (is_on r y)) h
+  or_tells x y w hx hy h = record { carries = meant (λ r s e. e ∙ ap (λ n. bit_or n (r.read y.number)) (bit_of b x r (IsBit-Makes a b x m hx) s) ∙ ap (bit_or (bit (is_on r x))) (bit_of b y r (IsBit-Makes a b y m hy) s) ∙ or_bits (is_on r x) (is_on r y)) h }
 
   pub choice_tells : (c x y w : Wire) → IsBit a.nets x → IsBit a.nets y → Carries b 1 (λ r v. v ≡ cell_value r.read 1 (cell.Choose c x y)) w → Tells b (λ r. if is_on r c then is_on r x else is_on r y) w
-  choice_tells c x y w hx hy h = meant (λ r s e. e ∙ ap (λ n. if is_on r c then n else r.read y.number) (bit_of b x r (IsBit-Makes a b x m hx) s) ∙ ap (λ n. if is_on r c then bit (is_on r x) else n) (bit_of b y r (IsBit-Makes a b y m hy) s) ∙ choice_bits (is_on r c) (is_on r x) (is_on r y)) h
+  choice_tells c x y w hx hy h = record { carries = meant (λ r s e. e ∙ ap (λ n. if is_on r c then n else r.read y.number) (bit_of b x r (IsBit-Makes a b x m hx) s) ∙ ap (λ n. if is_on r c then bit (is_on r x) else n) (bit_of b y r (IsBit-Makes a b y m hy) s) ∙ choice_bits (is_on r c) (is_on r x) (is_on r y)) h }
 
 -- one net alone
 and_alone : (p : Bool) → p ≡ (p && true)
@@ -88,19 +91,19 @@ or_alone true = refl
 or_alone false = refl
 
 pub alone_all : (d : Draft) (w : Wire) → IsBit d.nets w → Tells d (λ r. list_all (is_on r) (w ∷ [])) w
-alone_all d w h = record { net = h.net; wide = h.bit; means = record { holds = λ r s. bit_of d w r h s ∙ ap bit (and_alone (is_on r w)) } }
+alone_all d w h = record { carries = record { net = h.net; wide = h.bit; means = record { holds = λ r s. bit_of d w r h s ∙ ap bit (and_alone (is_on r w)) } } }
 
 pub alone_any : (d : Draft) (w : Wire) → IsBit d.nets w → Tells d (λ r. list_any (is_on r) (w ∷ [])) w
-alone_any d w h = record { net = h.net; wide = h.bit; means = record { holds = λ r s. bit_of d w r h s ∙ ap bit (or_alone (is_on r w)) } }
+alone_any d w h = record { carries = record { net = h.net; wide = h.bit; means = record { holds = λ r s. bit_of d w r h s ∙ ap bit (or_alone (is_on r w)) } } }
 
 -- No nets.
 
 pub none_all : {d : Draft} (nets : List Wire) (w : Wire) → length nets ≡ 0 → Carries d 1 (λ r x. x ≡ 1) w → Tells d (λ r. list_all (is_on r) nets) w
-none_all [] w e h = h
+none_all [] w e h = record { carries = h }
 none_all (x ∷ nets) w e h = absurd (omega arith)
 
 pub none_any : {d : Draft} (nets : List Wire) (w : Wire) → length nets ≡ 0 → Carries d 1 (λ r x. x ≡ 0) w → Tells d (λ r. list_any (is_on r) nets) w
-none_any [] w e h = h
+none_any [] w e h = record { carries = h }
 none_any (x ∷ nets) w e h = absurd (omega arith)
 
 -- One net.

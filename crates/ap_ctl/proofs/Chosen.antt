@@ -26,34 +26,30 @@ pub pairs_any : {X : Type 0} (p q : X → Bool) (r : Reading) (xs : List X) (ws 
 pairs_any p q r [] [] h = refl
 pairs_any p q r [] (w ∷ ws) h = absurd h
 pairs_any p q r (x ∷ xs) [] h = absurd h
-pairs_any {X} p q r (x ∷ xs) (w ∷ ws) h = by (p x) where
-  rest : list_any (is_on r) (map net_of (filter (λ (z : X × Wire). p z.0) (zip xs ws))) ≡ list_any (λ x. p x && q x) xs
-  rest = pairs_any p q r xs ws h.1
-  by : (b : Bool) → list_any (is_on r) (map net_of (if b then (x, w) ∷ filter (λ (z : X × Wire). p z.0) (zip xs ws) else filter (λ (z : X × Wire). p z.0) (zip xs ws))) ≡ ((b && q x) || list_any (λ x. p x && q x) xs)
-  by true = ap (λ b. b || list_any (is_on r) (map net_of (filter (λ (z : X × Wire). p z.0) (zip xs ws)))) h.0 ∙ ap (λ b. q x || b) rest
-  by false = rest
+pairs_any {X} p q r (x ∷ xs) (w ∷ ws) h = by (pairs_any p q r xs ws h.1) (p x) where
+  by : (rest : list_any (is_on r) (map net_of (filter (λ (z : X × Wire). p z.0) (zip xs ws))) ≡ list_any (λ x. p x && q x) xs) (b : Bool) → list_any (is_on r) (map net_of (if b then (x, w) ∷ filter (λ (z : X × Wire). p z.0) (zip xs ws) else filter (λ (z : X × Wire). p z.0) (zip xs ws))) ≡ ((b && q x) || list_any (λ x. p x && q x) xs)
+  by rest true = ap (λ b. b || list_any (is_on r) (map net_of (filter (λ (z : X × Wire). p z.0) (zip xs ws)))) h.0 ∙ ap (λ b. q x || b) rest
+  by rest false = rest
 
 -- what holds of each net holds of each that is chosen
 pub chosen_each : {X : Type 0} (P : Wire → Type 0) (p : X × Wire → Bool) (xs : List X) (ws : List Wire) → Each P ws → Each P (map net_of (filter p (zip xs ws)))
 chosen_each P p [] ws h = tt
 chosen_each P p (x ∷ xs) [] h = tt
-chosen_each {X} P p (x ∷ xs) (w ∷ ws) h = by (p (x, w)) where
-  by : (b : Bool) → Each P (map net_of (if b then (x, w) ∷ filter p (zip xs ws) else filter p (zip xs ws)))
-  by true = (h.0, chosen_each P p xs ws h.1)
-  by false = chosen_each P p xs ws h.1
+chosen_each {X} P p (x ∷ xs) (w ∷ ws) h = by (chosen_each P p xs ws h.1) (p (x, w)) where
+  by : (rest : Each P (map net_of (filter p (zip xs ws)))) (b : Bool) → Each P (map net_of (if b then (x, w) ∷ filter p (zip xs ws) else filter p (zip xs ws)))
+  by rest true = (h.0, rest)
+  by rest false = rest
 
 -- Units.
 
 units_any : (design : Design) (stage : ℕ) (busy : ℕ → Bool) (units : List ℕ)
     → list_any (λ unit. is_used_in design stage unit && busy unit) (filter (is_slow_unit design) units) ≡ list_any (λ unit. is_slow_unit design unit && is_used_in design stage unit && busy unit) units
 units_any design stage busy [] = refl
-units_any design stage busy (u ∷ units) = by (is_slow_unit design u) where
-  rest : list_any (λ unit. is_used_in design stage unit && busy unit) (filter (is_slow_unit design) units) ≡ list_any (λ unit. is_slow_unit design unit && is_used_in design stage unit && busy unit) units
-  rest = units_any design stage busy units
-  by : (b : Bool) → list_any (λ unit. is_used_in design stage unit && busy unit) (if b then u ∷ filter (is_slow_unit design) units else filter (is_slow_unit design) units)
+units_any design stage busy (u ∷ units) = by (units_any design stage busy units) (is_slow_unit design u) where
+  by : (rest : list_any (λ unit. is_used_in design stage unit && busy unit) (filter (is_slow_unit design) units) ≡ list_any (λ unit. is_slow_unit design unit && is_used_in design stage unit && busy unit) units) (b : Bool) → list_any (λ unit. is_used_in design stage unit && busy unit) (if b then u ∷ filter (is_slow_unit design) units else filter (is_slow_unit design) units)
       ≡ ((b && is_used_in design stage u && busy u) || list_any (λ unit. is_slow_unit design unit && is_used_in design stage unit && busy unit) units)
-  by true = ap (λ b. (is_used_in design stage u && busy u) || b) rest
-  by false = rest
+  by rest true = ap (λ b. (is_used_in design stage u && busy u) || b) rest
+  by rest false = rest
 
 back : {X : Type 0} (r : Reading) (q : X → Bool) (xs : List X) (ws : List Wire) → EachPair (λ x (w : Wire). q x ≡ is_on r w) xs ws → EachPair (λ x (w : Wire). is_on r w ≡ q x) xs ws
 back r q [] [] h = tt
@@ -74,7 +70,7 @@ none_match : (p : Instr → Bool) (bits word : ℕ) (one : Instr) (instrs : List
 none_match p bits word one [] lt m h = refl
 none_match p bits word one (i ∷ instrs) lt m h =
     let apart : is_match word i ≡ false = false_from_ne_true (is_match word i) (λ e. h.0 word lt m (eqb-true (bit_and word i.fixed_mask) i.fixed_value e)) in
-    rw apart (no_and (p i) (list_any (λ i. p i && is_match word i) instrs) (none_match p bits word one instrs lt m h.1))
+    ap (λ b. (p i && b) || list_any (λ i. p i && is_match word i) instrs) apart ∙ no_and (p i) (list_any (λ i. p i && is_match word i) instrs) (none_match p bits word one instrs lt m h.1)
   where
     no_and : (a b : Bool) → b ≡ false → ((a && false) || b) ≡ false
     no_and true b e = e
@@ -83,18 +79,17 @@ none_match p bits word one (i ∷ instrs) lt m h =
 -- of instructions that share no word the first that a word matches is the only one
 first_any : (p : Instr → Bool) (bits word : ℕ) (instrs : List Instr) → word < 2 ^ bits → AreApart bits instrs → list_any (λ i. p i && is_match word i) instrs ≡ option_map_or p (find (is_match word) instrs) false
 first_any p bits word [] lt h = refl
-first_any p bits word (i ∷ instrs) lt h = by (is_match word i) refl where
-  by : (b : Bool) → is_match word i ≡ b → ((p i && b) || list_any (λ i. p i && is_match word i) instrs) ≡ option_map_or p (if b then Some i else find (is_match word) instrs) false
-  by true e = rw (none_match p bits word i instrs lt (eqb-true (bit_and word i.fixed_mask) i.fixed_value e) h.0) (alone (p i))
-    where
-      alone : (a : Bool) → ((a && true) || false) ≡ a
-      alone true = refl
-      alone false = refl
-  by false e = none (p i) ∙ first_any p bits word instrs lt h.1
-    where
-      none : (a : Bool) → ((a && false) || list_any (λ i. p i && is_match word i) instrs) ≡ list_any (λ i. p i && is_match word i) instrs
-      none true = refl
-      none false = refl
+first_any p bits word (i ∷ instrs) lt h = by (first_any p bits word instrs lt h.1) (is_match word i) refl where
+  alone : (a : Bool) → ((a && true) || false) ≡ a
+  alone true = refl
+  alone false = refl
+  none : (a b : Bool) → ((a && false) || b) ≡ b
+  none true b = refl
+  none false b = refl
+  by : (rest : list_any (λ i. p i && is_match word i) instrs ≡ option_map_or p (find (is_match word) instrs) false) (b : Bool) → is_match word i ≡ b
+      → ((p i && b) || list_any (λ i. p i && is_match word i) instrs) ≡ option_map_or p (if b then Some i else find (is_match word) instrs) false
+  by rest true e = ap (λ b. (p i && true) || b) (none_match p bits word i instrs lt (eqb-true (bit_and word i.fixed_mask) i.fixed_value e) h.0) ∙ alone (p i)
+  by rest false e = none (p i) (list_any (λ i. p i && is_match word i) instrs) ∙ rest
 
 pub memory_line : (design : Design) (stage word : ℕ) → word < 2 ^ design.word → AreApart design.word design.instrs → list_any (λ i. has_memory_line_in stage i && is_match word i) design.instrs ≡ has_memory_line design stage word
 unfolding has_memory_line instr_of

@@ -14,7 +14,7 @@ use Rattle.ap_net.specs.Ready.{Dependence, numbers}
 use Rattle.ap_net.specs.Readings.{Reading, IsSettled}
 use Rattle.ap_ctl.specs.declared.decode.Compared.{Compared}
 use Rattle.ap_ctl.specs.declared.field.FieldTest.{FieldTest}
-use Rattle.ap_ctl.specs.Building.{Builds, GivesEach, IsBit, Tells, is_on}
+use Rattle.ap_ctl.specs.Building.{BuildsComparing, GivesEachComparing, IsBit, Tells, is_on}
 use Rattle.ap_ctl.specs.Decoding.{FitsWord, IsCompared, compared_net, field_tests, is_wanted, passes, tests_of}
 use Rattle.ap_ctl.specs.Lists.{EachPair}
 use Rattle.ap_ctl.specs.Nets.{AreDecoded, FollowsWord}
@@ -26,10 +26,10 @@ use Rattle.ap_ctl.proofs.Tests.{IsAmong, all_among, each_test, wanted_same}
 
 pub filter_each : {X : Type 0} (P : X → Type 0) (p : X → Bool) (xs : List X) → Each P xs → Each P (filter p xs)
 filter_each P p [] h = tt
-filter_each {X} P p (x ∷ xs) h = by (p x) where
-  by : (b : Bool) → Each P (if b then x ∷ filter p xs else filter p xs)
-  by true = (h.0, filter_each P p xs h.1)
-  by false = filter_each P p xs h.1
+filter_each {X} P p (x ∷ xs) h = by (filter_each P p xs h.1) (p x) where
+  by : (rest : Each P (filter p xs)) (b : Bool) → Each P (if b then x ∷ filter p xs else filter p xs)
+  by rest true = (h.0, rest)
+  by rest false = rest
 
 -- the nets of tests are all 1 exactly where the word passes the tests
 pub all_compared : (d : Draft) (word : Wire) (r : Reading) (made : List Compared) → IsSettled d r → Each (IsCompared d word) made
@@ -40,8 +40,8 @@ all_compared d word r (c ∷ made) s h = joined_all (on_of h.0 r s) (all_compare
 pub compared_bits : (d : Draft) (word : Wire) (made : List Compared) → Each (IsCompared d word) made → Each (IsBit d.nets) (map compared_net made)
 compared_bits d word made h = Each-map (IsBit d.nets) compared_net made (Each-weaker (IsCompared d word) (λ (c : Compared). IsBit d.nets c.net) (λ c t. IsBit-Tells t) made h)
 
-pub compared_later : {from : List ℕ} {a b : Draft} (word : Wire) (made : List Compared) → Builds from a b → Each (IsCompared a word) made → Each (IsCompared b word) made
-compared_later {from} {a} {b} word made p h = Each-weaker (IsCompared a word) (IsCompared b word) (λ c t. Tells-Builds p t) made h
+pub compared_later : {ps : List (Wire × FieldTest)} {from : List ℕ} {a b : Draft} (word : Wire) (made : List Compared) → BuildsComparing ps from a b → Each (IsCompared a word) made → Each (IsCompared b word) made
+compared_later {ps} {from} {a} {b} word made p h = Each-weaker (IsCompared a word) (IsCompared b word) (λ c t. Tells-Builds p t) made h
 
 -- the nets of those that are wanted are among all
 pub wanted_among : (wanted : List FieldTest) (made : List Compared) → Each (Among (numbers (map compared_net made))) (numbers (map compared_net (filter (is_wanted wanted) made)))
@@ -49,11 +49,11 @@ wanted_among wanted made =
     let from = numbers (map compared_net made) in
     Each-map (Among from) (λ (w : Wire). w.number) (map compared_net (filter (is_wanted wanted) made))
     (Each-map (λ (w : Wire). Among from w.number) compared_net (filter (is_wanted wanted) made)
-    (filter_each (λ (c : Compared). Among from c.net.number) (is_wanted wanted) made (unmapped made (among_nets (map compared_net made)))))
+    (filter_each (λ (c : Compared). Among from c.net.number) (is_wanted wanted) made (unmapped (numbers (map compared_net made)) made (among_nets (map compared_net made)))))
   where
-    unmapped : {from : List ℕ} (xs : List Compared) → Each (λ (w : Wire). Among from w.number) (map compared_net xs) → Each (λ (c : Compared). Among from c.net.number) xs
-    unmapped [] h = tt
-    unmapped (x ∷ xs) h = (h.0, unmapped xs h.1)
+    unmapped : (from : List ℕ) (xs : List Compared) → Each (λ (w : Wire). Among from w.number) (map compared_net xs) → Each (λ (c : Compared). Among from c.net.number) xs
+    unmapped from [] h = tt
+    unmapped from (x ∷ xs) h = (h.0, unmapped from xs h.1)
 
 -- the tests of a clean design fit its words
 pub fitting_tests : (design : Design) (tests : List FieldTest) (bits : ℕ) → IsClean design → IsEncoded design → tests ≡ field_tests design → bits ≡ design.word → Each (FitsWord bits) tests
@@ -72,14 +72,14 @@ condition_matches design clean encoded tests wanted made i word instr at is of w
 
 -- Stages go on.
 
-pub decoded_later : {from : List ℕ} {a b : Draft} (design : Design) (words : List Wire) (decoded : List (List Wire)) → Builds from a b → EachPair (AreDecoded design a) words decoded → EachPair (AreDecoded design b) words decoded
-decoded_later {from} {a} {b} design words decoded p h =
+pub decoded_later : {ps : List (Wire × FieldTest)} {from : List ℕ} {a b : Draft} (design : Design) (words : List Wire) (decoded : List (List Wire)) → BuildsComparing ps from a b → EachPair (AreDecoded design a) words decoded → EachPair (AreDecoded design b) words decoded
+decoded_later {ps} {from} {a} {b} design words decoded p h =
     EachPair-weaker (AreDecoded design a) (AreDecoded design b) (λ word conditions. conditions_later design word conditions p) words decoded h
   where
-    conditions_later : {from : List ℕ} {a b : Draft} (design : Design) (word : Wire) (conditions : List Wire) → Builds from a b → AreDecoded design a word conditions → AreDecoded design b word conditions
-    conditions_later {from} {a} {b} design word conditions p h = EachPair-weaker (λ (i : Instr). Tells a (λ r. is_match (r.read word.number) i)) (λ (i : Instr). Tells b (λ r. is_match (r.read word.number) i)) (λ i w t. Tells-Builds p t) design.instrs conditions h
+    conditions_later : {ps : List (Wire × FieldTest)} {from : List ℕ} {a b : Draft} (design : Design) (word : Wire) (conditions : List Wire) → BuildsComparing ps from a b → AreDecoded design a word conditions → AreDecoded design b word conditions
+    conditions_later {ps} {from} {a} {b} design word conditions p h = EachPair-weaker (λ (i : Instr). Tells a (λ r. is_match (r.read word.number) i)) (λ (i : Instr). Tells b (λ r. is_match (r.read word.number) i)) (λ i w t. Tells-Builds p t) design.instrs conditions h
 
-pub follows_word : (a b : Draft) (word : Wire) (conditions : List Wire) → GivesEach (word.number ∷ []) a b conditions → FollowsWord b word conditions
+pub follows_word : {ps : List (Wire × FieldTest)} (a b : Draft) (word : Wire) (conditions : List Wire) → GivesEachComparing ps (word.number ∷ []) a b conditions → FollowsWord b word conditions
 follows_word a b word conditions g by = follows_each by (word.number ∷ []) a b conditions g
 
 pub words_later : (a b : Draft) (words : List Wire) (decoded : List (List Wire)) → Extends a b → EachPair (FollowsWord a) words decoded → EachPair (FollowsWord b) words decoded

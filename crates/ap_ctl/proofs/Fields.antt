@@ -68,8 +68,8 @@ width_of fields = sum_by (λ (x : Field). x.width) fields
 
 -- what fields do: mask and value lie in their bits, and a word has the value in the mask exactly where it passes the tests
 record Decides (word width mask value : ℕ) (tests : List FieldTest) : Type 0 where
-  mask : mask < 2 ^ width
-  value : value < 2 ^ width
+  mask_low : mask < 2 ^ width
+  value_low : value < 2 ^ width
   same : (bit_and word mask == value) ≡ list_all (passes word) tests
 
 block_below : (v r j k : ℕ) → v < 2 ^ j → r < 2 ^ k → v * 2 ^ k + r < 2 ^ (j + k)
@@ -89,8 +89,8 @@ free_field word width mask value more tests d =
     let no_mask : 0 + mask ≡ mask = omega arith in
     let no_value : 0 + value ≡ value = omega arith in
     record {
-      mask = omega (arith, d.mask);
-      value = omega (arith, d.value);
+      mask_low = omega (arith, d.mask_low);
+      value_low = omega (arith, d.value_low);
       same = ap (λ m. bit_and word m == 0 + value) no_mask ∙ ap (λ v. bit_and word mask == v) no_value ∙ d.same;
     }
 
@@ -99,12 +99,12 @@ fixed_field : (word width mask value more v : ℕ) (tests : List FieldTest) → 
     → Decides word (more + width) ((2 ^ more - 1) * 2 ^ width + mask) (v * 2 ^ width + value) (record { low = width; width = more; value = v } ∷ tests)
 fixed_field word width mask value more v tests fits d =
     let some : 0 < 2 ^ more = pow_pos more in
-    let below : bit_and word mask < 2 ^ width = omega (arith, d.mask, and_le_r word mask) in
+    let below : bit_and word mask < 2 ^ width = omega (arith, d.mask_low, and_le_r word mask) in
     record {
-      mask = block_below (2 ^ more - 1) mask more width (omega arith) d.mask;
-      value = block_below v value more width fits d.value;
-      same = ap (λ n. n == v * 2 ^ width + value) (block_mask word width more mask d.mask)
-          ∙ blocks_same ((word / 2 ^ width) % 2 ^ more) v (bit_and word mask) value width below d.value
+      mask_low = block_below (2 ^ more - 1) mask more width (omega arith) d.mask_low;
+      value_low = block_below v value more width fits d.value_low;
+      same = ap (λ n. n == v * 2 ^ width + value) (block_mask word width more mask d.mask_low)
+          ∙ blocks_same ((word / 2 ^ width) % 2 ^ more) v (bit_and word mask) value width below d.value_low
           ∙ ap (λ b. ((word / 2 ^ width) % 2 ^ more == v) && b) d.same;
     }
 
@@ -130,8 +130,8 @@ joined f (Some v) zs = refl
 
 fields_decide : (word bits : ℕ) (fields : List Field) (fixed : List (Option ℕ)) → ArePlaced fields → width_of fields ≤ bits → list_all fits_field (zip fields fixed) ≡ true
     → Decides word (width_of fields) (mask_of bits (zip fields fixed)) (value_of bits (zip fields fixed)) (filter_map test_of (zip fields fixed))
-fields_decide word bits [] fixed placed within fits = record { mask = pow_pos 0; value = pow_pos 0; same = no_bits word }
-fields_decide word bits (f ∷ fields) [] placed within fits = record { mask = pow_pos (width_of (f ∷ fields)); value = pow_pos (width_of (f ∷ fields)); same = no_bits word }
+fields_decide word bits [] fixed placed within fits = record { mask_low = pow_pos 0; value_low = pow_pos 0; same = no_bits word }
+fields_decide word bits (f ∷ fields) [] placed within fits = record { mask_low = pow_pos (width_of (f ∷ fields)); value_low = pow_pos (width_of (f ∷ fields)); same = no_bits word }
 fields_decide word bits (f ∷ fields) (o ∷ fixed) placed within fits =
     let zs = zip fields fixed in
     let widths : width_of (f ∷ fields) ≡ f.width + width_of fields = sum_by-cons (λ (x : Field). x.width) f fields in

@@ -43,3 +43,14 @@ next_among g valid fires = (
 
 pub next_valid_among : (g : Gates) (valid fires : List Wire) → Each (λ (w : Wire). Among (next_numbers g valid fires) w.number) valid
 next_valid_among g valid fires = Each-weaker (λ (w : Wire). Among (numbers valid) w.number) (λ (w : Wire). Among (next_numbers g valid fires) w.number) (λ w h. inr (inr (inr (among_l (numbers valid) (numbers fires) w.number h)))) valid (among_nets valid)
+
+pub contains_first : {X : Type 0} (x : X) (xs : List X) → Contains (x ∷ xs) x
+contains_first x xs = (zero, omega arith, refl)
+
+pub contains_later : {X : Type 0} (y : X) (xs : List X) (x : X) → Contains xs x → Contains (y ∷ xs) x
+contains_later y xs x (k, low, at) = (suc k, omega arith, at)
+
+pub contains_index : {X : Type 0} (xs : List X) (i : ℕ) (d : X) → i < length xs → Contains xs (get_or xs i d)
+contains_index [] i d lt = absurd (omega arith)
+contains_index (x ∷ xs) zero d lt = contains_first x xs
+contains_index (x ∷ xs) (suc i) d lt = contains_later x xs (get_or xs i d) (contains_index xs i d (omega arith))

@@ -30,7 +30,7 @@ module _ (design : Design) (given : ControlGiven) (valid : List Wire) (d : Draft
 
   -- what tells a fact shows a meaning that is the same
   pub shown : (fact : Reading → Bool) (meaning : Look → Bool) (w : Wire) → ((r : Reading) → IsSettled d r → (look : Look) → Sees design given valid r look → fact r ≡ meaning look) → Tells d fact w → Shows design given valid d meaning w
-  shown fact meaning w f h = meant (λ r s e look sees. e ∙ ap bit (f r s look sees)) h
+  shown fact meaning w f h = meant (λ r s e look sees. e ∙ ap bit (f r s look sees)) h.carries
 
   module _ (g : Gates) (gates : AreGates d given.taken g) (hold : (stage : ℕ) → Shows design given valid d (λ look. is_held design look stage) g.hold) where
     pub kill_shown : Shows design given valid d (kills design) g.kill
@@ -68,7 +68,7 @@ module _ (design : Design) (given : ControlGiven) (valid : List Wire) (d : Draft
         let back : 1 + (stage - 1) ≡ stage = omega arith in
         let v : Wire = get_or valid (stage - 1) given.mwait in
         let at : slice_get valid (stage - 1) ≡ Some v = slice_get-get_or valid (stage - 1) given.mwait lt in
-        let here : look.valid (1 + (stage - 1)) ≡ is_on r v = EachFrom-at (λ n (w : Wire). look.valid n ≡ is_on r w) 1 valid sees.valid (stage - 1) v at in
+        let here : look.valid (1 + (stage - 1)) ≡ is_on r v = EachFrom-at (λ n (w : Wire). look.valid n ≡ is_on r w) 1 valid sees.bits (stage - 1) v at in
         ap (λ o. option_map_or (is_on r) o false) at ∙ sym here ∙ ap look.valid back
 
     fire_shown : (r : Reading) → IsSettled d r → (look : Look) → Sees design given valid r look → (stage : ℕ) → 1 ≤ stage → stage < 1 + length valid → fire_of design g valid stage r ≡ fires design look stage

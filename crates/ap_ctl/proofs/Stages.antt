@@ -9,12 +9,12 @@ use Rattle.ap_desc.specs.declared.design.Design.{Design}
 use Rattle.ap_desc.specs.declared.design.Instr.{Instr}
 use Rattle.ap_model.specs.Fire.{is_match}
 use Rattle.ap_net.specs.declared.cell.Wire.{Wire}
-use Rattle.ap_net.specs.Draft.{Draft}
-use Rattle.ap_net.specs.Pending.{Among}
+use Rattle.ap_net.specs.Draft.{Draft, CanFresh}
+use Rattle.ap_net.specs.Pending.{Among, IsFrom}
 use Rattle.ap_net.specs.Ready.{numbers}
 use Rattle.ap_net.specs.Readings.{Reading, IsSettled}
 use Rattle.ap_ctl.specs.declared.nets.ControlGiven.{ControlGiven}
-use Rattle.ap_ctl.specs.Building.{Tells, is_on}
+use Rattle.ap_ctl.specs.Building.{GivesEach, Tells, is_on}
 use Rattle.ap_ctl.specs.Given.{IsWordNet, memory_nets, unit_nets}
 use Rattle.ap_ctl.specs.Lists.{EachFrom, EachPair}
 use Rattle.ap_ctl.specs.Meaning.{Look, Sees, is_busy}
@@ -22,7 +22,7 @@ use Rattle.ap_ctl.specs.Moves.{busy_numbers, stage_numbers}
 use Rattle.ap_ctl.specs.Nets.{AreDecoded}
 use Rattle.ap_ctl.proofs.Beside.{EachFrom-at, EachPair-weaker, range-push}
 use Rattle.ap_ctl.proofs.Bits.{joined_all, joined_any, on_of}
-use Rattle.ap_ctl.proofs.Built.{Each-join, Each-map, Each-weaker, among_all, among_nets}
+use Rattle.ap_ctl.proofs.Built.{Builds-refl, Each-join, Each-map, Each-weaker, among_all, among_nets}
 use Rattle.ap_ctl.proofs.Chosen.{among_chosen, memory_waits, units_busy}
 
 -- the nets of a stage say that it is busy exactly where control means so
@@ -31,7 +31,7 @@ pub stage_busy : (design : Design) (given : ControlGiven) (valid : List Wire) (d
     → (list_any (is_on r) (unit_nets design (1 + place) given.busy) || (is_on r given.mwait && is_on r v && list_any (is_on r) (memory_nets design (1 + place) conditions))) ≡ is_busy design look (1 + place)
 stage_busy design given valid d r look encoded s sees place word v conditions at there net decoded =
     let here : look.word (1 + place) ≡ r.read word.number = EachFrom-at (λ stage (w : Wire). look.word stage ≡ r.read w.number) 1 given.words sees.words place word at in
-    let bit : look.valid (1 + place) ≡ is_on r v = EachFrom-at (λ stage (w : Wire). look.valid stage ≡ is_on r w) 1 valid sees.valid place v there in
+    let bit : look.valid (1 + place) ≡ is_on r v = EachFrom-at (λ stage (w : Wire). look.valid stage ≡ is_on r w) 1 valid sees.bits place v there in
     let fits : r.read word.number < 2 ^ design.word = subst (λ n. r.read word.number < 2 ^ n) net.wide (s.own.fits word.number word.width net.net.declared) in
     let low : look.word (1 + place) < 2 ^ design.word = subst (λ n. n < 2 ^ design.word) (sym here) fits in
     let each : EachPair (λ (i : Instr) (w : Wire). is_on r w ≡ is_match (look.word (1 + place)) i) design.instrs conditions =
@@ -118,3 +118,10 @@ stage_among valid decoded given place v conditions at there =
         let same : m ≡ l = cc in
         subst (λ (x : List Wire). Each (Among (numbers m ++ flat_map numbers lists)) (numbers x)) same (Each-weaker (Among (numbers m)) (Among (numbers m ++ flat_map numbers lists)) (λ n h. among_l (numbers m) (flat_map numbers lists) n h) (numbers m) (among_all (numbers m)))
     among_flat (m ∷ lists) (suc i) l at = Each-weaker (Among (flat_map numbers lists)) (Among (numbers m ++ flat_map numbers lists)) (λ n h. among_r (numbers m) (flat_map numbers lists) n h) (numbers l) (among_flat lists i l at)
+
+-- where no net is made
+pub stage_nothing : (design : Design) (given : ControlGiven) (stage : ℕ) (valid : Wire) (conditions : List Wire) (d : Draft) → CanFresh d → GivesEach (stage_numbers valid conditions given) d d (unit_nets design stage given.busy)
+stage_nothing design given stage valid conditions d fresh = record {
+  builds = Builds-refl (stage_numbers valid conditions given) d fresh;
+  results = Each-weaker (λ (w : Wire). Among (stage_numbers valid conditions given) w.number) (λ (w : Wire). IsFrom (stage_numbers valid conditions given) d d w.number) (λ w h. inl h) (unit_nets design stage given.busy) (stage_units design given stage valid conditions);
+}

@@ -1,15 +1,17 @@
 -- The tests of all instructions, each once: those that an instruction wants are among them.
-use Rattle.std.proofs.Common.{◌≡◌, ℕ, zero, suc, ◌+◌, ◌<◌, Bool, true, false, List, [], ◌∷◌, ◌++◌, length, map, inl, inr, refl, sym, ap, subst, ◌∙◌, arith, flat_map}
+use Rattle.std.proofs.Common.{◌≡◌, ℕ, zero, suc, ◌+◌, ◌<◌, Bool, true, false, List, [], ◌∷◌, ◌++◌, length, map, get_or, take, append-nil, inl, inr, refl, sym, ap, subst, ◌∙◌, arith, flat_map}
 use Rattle.std.specs.Prelude.{◌==◌, ◌&&◌, ◌||◌, ◌⊎◌, not, if◌then◌else◌, filter, fold}
 use Rattle.std.specs.List.{AllByRecursion as Each, list_all, list_any}
 use Rattle.std.proofs.lemmas.Bool.{and_from, and_parts, cases_Bool, eq-eqb, eqb-true, or_cases, or_from, or_left, or_parts, or_right, false_from_ne_true, both_ways}
 use Rattle.std.proofs.lemmas.List.Folds.{list_any-append}
-use Rattle.std.proofs.lemmas.Grind.{fold-append}
+use Rattle.std.proofs.lemmas.Grind.{flat_map-append, fold-append}
+use Rattle.std.proofs.lemmas.List.{map-append, take_more}
+use Rattle.ap_net.specs.declared.cell.Wire.{Wire}
 use Rattle.ap_desc.specs.declared.design.Design.{Design}
 use Rattle.ap_desc.specs.declared.design.Instr.{Instr}
 use Rattle.ap_ctl.specs.declared.decode.Compared.{Compared}
 use Rattle.ap_ctl.specs.declared.field.FieldTest.{FieldTest}
-use Rattle.ap_ctl.specs.Decoding.{FitsWord, NoneTwice, field_tests, is_same_test, is_wanted, passes, tests_of, with_test}
+use Rattle.ap_ctl.specs.Decoding.{FitsWord, NoneTwice, compared_in, field_tests, is_same_test, is_wanted, passes, tests_of, with_test, with_tests}
 use Rattle.ap_ctl.proofs.Fields.{same_truth}
 
 -- tests that are the same are equal
@@ -85,12 +87,13 @@ fold_each P tests (t ∷ more) h g = fold_each P (with_test tests t) more (by (l
   by true = h
   by false = push tests h
 
+each_joined : (P : FieldTest → Type 0) (ts us : List FieldTest) → Each P ts → Each P us → Each P (ts ++ us)
+each_joined P [] us k g = g
+each_joined P (t ∷ ts) us k g = (k.0, each_joined P ts us k.1 g)
+
 each_flat : (P : FieldTest → Type 0) (f : Instr → List FieldTest) (instrs : List Instr) → Each (λ (i : Instr). Each P (f i)) instrs → Each P (flat_map f instrs)
 each_flat P f [] h = tt
-each_flat P f (i ∷ instrs) h = both (f i) h.0 where
-  both : (ts : List FieldTest) → Each P ts → Each P (ts ++ flat_map f instrs)
-  both [] k = each_flat P f instrs h.1
-  both (t ∷ ts) k = (k.0, both ts k.1)
+each_flat P f (i ∷ instrs) h = each_joined P (f i) (flat_map f instrs) h.0 (each_flat P f instrs h.1)
 
 pub each_test : (P : FieldTest → Type 0) (design : Design) → Each (λ (i : Instr). Each P (tests_of design i)) design.instrs → Each P (field_tests design)
 each_test P design h = fold_each P [] (flat_map (tests_of design) design.instrs) tt (each_flat P (tests_of design) design.instrs h)
@@ -135,26 +138,24 @@ passes_other word t (x ∷ ts) e h =
 -- all that are wanted pass where all wanted do
 wanted_pass : (word : ℕ) (wanted : List FieldTest) (made : List Compared) → list_all (passes word) wanted ≡ true → list_all (λ (c : Compared). passes word c.test) (filter (is_wanted wanted) made) ≡ true
 wanted_pass word wanted [] h = refl
-wanted_pass word wanted (c ∷ made) h = by (is_wanted wanted c) refl where
-  by : (b : Bool) → is_wanted wanted c ≡ b → list_all (λ (x : Compared). passes word x.test) (if b then c ∷ filter (is_wanted wanted) made else filter (is_wanted wanted) made) ≡ true
-  by true e = and_from (passes word c.test) (list_all (λ (x : Compared). passes word x.test) (filter (is_wanted wanted) made)) (passes_other word c.test wanted e h) (wanted_pass word wanted made h)
-  by false e = wanted_pass word wanted made h
+wanted_pass word wanted (c ∷ made) h = by (wanted_pass word wanted made h) (is_wanted wanted c) refl where
+  by : (rest : list_all (λ (x : Compared). passes word x.test) (filter (is_wanted wanted) made) ≡ true) (b : Bool) → is_wanted wanted c ≡ b → list_all (λ (x : Compared). passes word x.test) (if b then c ∷ filter (is_wanted wanted) made else filter (is_wanted wanted) made) ≡ true
+  by rest true e = and_from (passes word c.test) (list_all (λ (x : Compared). passes word x.test) (filter (is_wanted wanted) made)) (passes_other word c.test wanted e h) rest
+  by rest false e = rest
 
 -- a test that is wanted and made passes where those that are wanted do
 made_passes : (word : ℕ) (wanted : List FieldTest) (t : FieldTest) (made : List Compared) → list_any (is_same_test t) wanted ≡ true → list_any (is_same_test t) (map (λ (c : Compared). c.test) made) ≡ true
     → list_all (λ (c : Compared). passes word c.test) (filter (is_wanted wanted) made) ≡ true → passes word t ≡ true
 made_passes word wanted t [] want e h = absurd cc
-made_passes word wanted t (c ∷ made) want e h = by (is_wanted wanted c) refl h where
-  later : list_any (is_same_test t) (map (λ (x : Compared). x.test) made) ≡ true → list_all (λ (x : Compared). passes word x.test) (filter (is_wanted wanted) made) ≡ true → passes word t ≡ true
-  later rest k = made_passes word wanted t made want rest k
-  by : (b : Bool) → is_wanted wanted c ≡ b → list_all (λ (x : Compared). passes word x.test) (if b then c ∷ filter (is_wanted wanted) made else filter (is_wanted wanted) made) ≡ true → passes word t ≡ true
-  by true w k =
+made_passes word wanted t (c ∷ made) want e h = by (λ rest k. made_passes word wanted t made want rest k) (is_wanted wanted c) refl h where
+  by : (later : list_any (is_same_test t) (map (λ (x : Compared). x.test) made) ≡ true → list_all (λ (x : Compared). passes word x.test) (filter (is_wanted wanted) made) ≡ true → passes word t ≡ true) (b : Bool) → is_wanted wanted c ≡ b → list_all (λ (x : Compared). passes word x.test) (if b then c ∷ filter (is_wanted wanted) made else filter (is_wanted wanted) made) ≡ true → passes word t ≡ true
+  by later true w k =
       let parts = and_parts (passes word c.test) (list_all (λ (x : Compared). passes word x.test) (filter (is_wanted wanted) made)) k in
       elim (or_cases (is_same_test t c.test) (list_any (is_same_test t) (map (λ (x : Compared). x.test) made)) e) [
         | inl same ↦ subst (λ y. passes word y ≡ true) (sym (tests_equal t c.test same)) parts.0
         | inr rest ↦ later rest parts.1
       ]
-  by false w k =
+  by later false w k =
       elim (or_cases (is_same_test t c.test) (list_any (is_same_test t) (map (λ (x : Compared). x.test) made)) e) [
         | inl same ↦ absurd (both_ways (is_wanted wanted c) w (subst (λ y. list_any (is_same_test y) wanted ≡ true) (tests_equal t c.test same) want))
         | inr rest ↦ later rest k
@@ -179,3 +180,13 @@ pub wanted_same : (word : ℕ) (wanted : List FieldTest) (made : List Compared) 
     → list_all (λ (c : Compared). passes word c.test) (filter (is_wanted wanted) made) ≡ list_all (passes word) wanted
 wanted_same word wanted made there = same_truth (list_all (λ (c : Compared). passes word c.test) (filter (is_wanted wanted) made)) (list_all (passes word) wanted)
     (all_pass word wanted wanted made (each_itself wanted) there) (wanted_pass word wanted made)
+
+-- a word beside one more test
+pub tests_more : (word : Wire) (tests : List FieldTest) (i : ℕ) (d : FieldTest) → i < length tests → with_tests (take i tests) word ++ (word, get_or tests i d) ∷ [] ≡ with_tests (take (i + 1) tests) word
+tests_more word tests i d lt = sym (ap (map (λ t. (word, t))) (take_more tests i d lt) ∙ map-append (λ t. (word, t)) (take i tests) (get_or tests i d ∷ []))
+
+-- one more word beside the tests
+pub words_more : (design : Design) (words : List Wire) (i : ℕ) (d : Wire) → i < length words → compared_in design (take i words) ++ with_tests (field_tests design) (get_or words i d) ≡ compared_in design (take (i + 1) words)
+words_more design words i d lt =
+    sym (ap (compared_in design) (take_more words i d lt) ∙ flat_map-append (with_tests (field_tests design)) (take i words) (get_or words i d ∷ [])
+    ∙ ap (λ l. compared_in design (take i words) ++ l) (append-nil (with_tests (field_tests design) (get_or words i d))))

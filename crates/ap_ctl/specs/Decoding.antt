@@ -45,6 +45,13 @@ with_test tests t = if list_any (is_same_test t) tests then tests else tests ++ 
 abbrev pub field_tests : Design → List FieldTest
 field_tests design = fold with_test [] (flat_map (tests_of design) design.instrs)
 
+-- a word beside each of the tests, and each of some words beside each of them
+abbrev pub with_tests : List FieldTest → Wire → List (Wire × FieldTest)
+with_tests tests word = map (λ t. (word, t)) tests
+
+abbrev pub compared_in : Design → List Wire → List (Wire × FieldTest)
+compared_in design words = flat_map (with_tests (field_tests design)) words
+
 -- no test is among those after it
 abbrev pub NoneTwice : List FieldTest → Type 0
 NoneTwice [] = Unit {0}

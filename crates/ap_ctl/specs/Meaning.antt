@@ -58,7 +58,7 @@ next_valid design look stage = if is_held design look stage then look.valid stag
 pub record Sees (design : Design) (given : ControlGiven) (valid : List Wire) (r : Reading) (look : Look) : Type 0 where
   pub fetched : look.valid 0 ≡ true
   pub words : EachFrom (λ stage (w : Wire). look.word stage ≡ r.read w.number) 1 given.words
-  pub valid : EachFrom (λ stage (w : Wire). look.valid stage ≡ is_on r w) 1 valid
+  pub bits : EachFrom (λ stage (w : Wire). look.valid stage ≡ is_on r w) 1 valid
   pub wait : look.wait ≡ is_on r given.mwait
   pub taken : look.taken ≡ is_on r given.taken
   pub busy : EachPair (λ unit (w : Wire). look.busy unit ≡ is_on r w) (slow_units design) given.busy

@@ -19,7 +19,8 @@ use Rattle.ap_net.specs.Wiring.{IsRegister, Unclocked}
 use Rattle.ap_signals.specs.NetRuns.{valid_name}
 use Rattle.ap_ctl.specs.declared.nets.ControlGiven.{ControlGiven}
 use Rattle.ap_ctl.specs.declared.nets.ControlNets.{ControlNets}
-use Rattle.ap_ctl.specs.Building.{AddsAssigns, IsBit, IsFreshWire, Tells}
+use Rattle.ap_ctl.specs.Building.{AddsAssigns, AddsComparisons, IsBit, IsFreshWire, Tells}
+use Rattle.ap_ctl.specs.Decoding.{compared_in}
 use Rattle.ap_ctl.specs.Given.{holding, killing}
 use Rattle.ap_ctl.specs.Lists.{EachFrom, EachPair}
 use Rattle.ap_ctl.specs.Meaning.{Look, Sees, fires, is_held, kills, next_valid}
@@ -85,12 +86,14 @@ pub record IsControl (design : Design) (given : ControlGiven) (d : Draft) (nets 
 
 -- What came.
 
--- The valid bits came, and then fresh wires, driven by cells of control. Each valid bit got what it takes. All else stays.
-pub record AddsControl (design : Design) (old new : Draft) (nets : ControlNets) : Type 0 where
+-- The valid bits came, and then fresh wires, driven by cells of control. Each stage's word is compared once for each test of a field.
+-- Each valid bit got what it takes. All else stays.
+pub record AddsControl (design : Design) (given : ControlGiven) (old new : Draft) (nets : ControlNets) : Type 0 where
   pub extends : Extends old new
   pub valid : nets.valid ≡ valid_wires (length old.nets) (design.stages - 1)
-  pub nets : (more : List ModuleNet) × (new.nets ≡ old.nets ++ valid_nets (design.stages - 1) ++ more) × Each IsFreshWire more
+  pub wires : (more : List ModuleNet) × (new.nets ≡ old.nets ++ valid_nets (design.stages - 1) ++ more) × Each IsFreshWire more
   pub assigns : AddsAssigns old new
+  pub compares : AddsComparisons (compared_in design given.words) old new
   pub nexts : (more : List Next) × (new.nexts ≡ old.nexts ++ more) × (map (λ (x : Next). x.register) more ≡ nets.valid)
   pub instances : new.instances ≡ old.instances
   pub fresh : CanFresh new

@@ -1,5 +1,5 @@
 //! Which stages are busy, and which are held.
-ghost use Rattle.std.specs.Prelude.{◌≡◌, ◌∷◌, ◌++◌, ◌&&◌, ◌||◌, ◌+◌, ◌-◌, ◌<◌, ◌≤◌, ◌==◌, ℕ, IfOk, OnOk, length, map};
+ghost use Rattle.std.specs.Prelude.{◌≡◌, ◌∷◌, ◌++◌, ◌&&◌, ◌||◌, ◌+◌, ◌-◌, ◌<◌, ◌≤◌, ◌==◌, ℕ, IfOk, OnOk, filter, length, map, zip};
 ghost use Rattle.std.specs.List.{AllByRecursion as Each, list_any, range_with_len};
 ghost use Rattle.ap_desc.specs.Clean.{IsClean};
 ghost use Rattle.ap_desc.specs.declared.design.Instr.{Instr};
@@ -10,7 +10,7 @@ ghost use Rattle.ap_net.specs.Draft.{CanFresh};
 ghost use Rattle.ap_net.specs.Readings.{Always};
 ghost use Rattle.ap_net.specs.Ready.{numbers};
 ghost use Rattle.ap_ctl.specs.Building.{Gives, GivesEach, IsBit, Tells, is_on};
-ghost use Rattle.ap_ctl.specs.Given.{IsGiven, has_memory_line_in, is_used_in, memory_nets, slow_units, unit_nets};
+ghost use Rattle.ap_ctl.specs.Given.{IsGiven, has_memory_line_in, is_used_in, memory_nets, net_of, slow_units, unit_nets};
 ghost use Rattle.ap_ctl.specs.Lists.{EachFrom, EachPair};
 ghost use Rattle.ap_ctl.specs.Meaning.{Look, Sees, is_busy, is_held};
 ghost use Rattle.ap_ctl.specs.Moves.{busy_numbers, stage_numbers};
@@ -36,15 +36,14 @@ fn latency_of(design: &Design, unit: u32) -> u32
 }
 
 /// The units that take more than one cycle, in the order of their declaration.
-fn slow_units(alloc: Global, design: &Design) -> Result<Items<u32>, AllocError>
+fn slow_units(alloc: Global, design: &Design) -> Result<Vec<u32>, AllocError>
     requires { length design.now.units ≤ 32 }
-    ensures { IfOk result (λ list. list ≡ slow_units design.now) }
+    ensures { IfOk result (λ units. units.items ≡ slow_units design.now) }
 {
     let count = design.units.len() as u32;
-    let units = (0..count)
+    (0..count)
         .filter(|unit| latency_of(design, *unit) > 1)
-        .collect(alloc)?;
-    Ok(Items::of(units))
+        .collect(alloc)
 }
 
 /// Whether the line uses the unit.
@@ -83,24 +82,38 @@ fn is_used_in(design: &Design, stage: u32, unit: u32) -> bool
     some_uses(design, stage, unit)
 }
 
+/// The nets of those of the units that the stage uses.
+fn nets_in(
+    alloc: Global,
+    design: &Design,
+    stage: u32,
+    units: &[u32],
+    busy: &[Wire],
+) -> Result<Vec<Wire>, AllocError>
+    ensures { IfOk result (λ nets. nets.items
+        ≡ map net_of (filter (λ p. is_used_in design.now stage p.0) (zip units.now busy.now))) }
+{
+    units
+        .iter()
+        .zip(busy)
+        .filter(|(unit, _)| is_used_in(design, stage, **unit))
+        .map(|(_, net)| *net)
+        .collect(alloc)
+}
+
 /// The busy nets of the units that the stage uses.
 fn unit_nets(
     alloc: Global,
     design: &Design,
     stage: u32,
     busy: &[Wire],
-) -> Result<Items<Wire>, AllocError>
+) -> Result<Items<Wire>, NoMemory>
     requires { length design.now.units ≤ 32 }
     ensures { IfOk result (λ nets. nets ≡ unit_nets design.now stage busy.now) }
 {
-    let units = slow_units(alloc, design)?;
-    let nets = units
-        .as_slice()
-        .iter()
-        .zip(busy)
-        .filter(|(unit, _)| is_used_in(design, stage, **unit))
-        .map(|(_, net)| *net)
-        .collect(alloc)?;
+    let slow = slow_units(alloc, design)?;
+    let units = Items::of(slow);
+    let nets = nets_in(alloc, design, stage, units.as_slice(), busy)?;
     Ok(Items::of(nets))
 }
 
@@ -120,23 +133,35 @@ fn has_memory_line_in(instr: &Instr, stage: u32) -> bool
     lines.any(|m| is_memory_line(m.act))
 }
 
+/// The conditions of those of the instructions that have a memory line in the stage.
+fn readers_in(
+    alloc: Global,
+    instrs: &[Instr],
+    stage: u32,
+    conditions: &[Wire],
+) -> Result<Vec<Wire>, AllocError>
+    ensures { IfOk result (λ nets. nets.items
+        ≡ map net_of (filter (λ p. has_memory_line_in stage p.0)
+        (zip instrs.now conditions.now))) }
+{
+    instrs
+        .iter()
+        .zip(conditions)
+        .filter(|(instr, _)| has_memory_line_in(instr, stage))
+        .map(|(_, net)| *net)
+        .collect(alloc)
+}
+
 /// The conditions of the instructions that have a memory line in the stage.
 fn memory_nets(
     alloc: Global,
     design: &Design,
     stage: u32,
     conditions: &[Wire],
-) -> Result<Items<Wire>, AllocError>
+) -> Result<Items<Wire>, NoMemory>
     ensures { IfOk result (λ nets. nets ≡ memory_nets design.now stage conditions.now) }
 {
-    let nets = design
-        .instrs
-        .as_slice()
-        .iter()
-        .zip(conditions)
-        .filter(|(instr, _)| has_memory_line_in(instr, stage))
-        .map(|(_, net)| *net)
-        .collect(alloc)?;
+    let nets = readers_in(alloc, design.instrs.as_slice(), stage, conditions)?;
     Ok(Items::of(nets))
 }
 

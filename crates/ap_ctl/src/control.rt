@@ -7,7 +7,8 @@ ghost use Rattle.ap_net.specs.Names.{IsNew};
 ghost use Rattle.ap_net.specs.Wiring.{NoneTwice};
 ghost use Rattle.ap_signals.specs.NetRuns.{valid_name};
 ghost use Rattle.ap_net.specs.Ready.{numbers};
-ghost use Rattle.ap_ctl.specs.Building.{Builds, IsBit};
+ghost use Rattle.ap_ctl.specs.Building.{BuildsComparing, IsBit};
+ghost use Rattle.ap_ctl.specs.Decoding.{compared_in};
 ghost use Rattle.ap_ctl.specs.Given.{IsGiven, killing};
 ghost use Rattle.ap_ctl.specs.Made.{IsMade, MadeFollows};
 ghost use Rattle.ap_ctl.specs.Nets.{AddsControl, FollowsGiven, HasNoValid, IsControl, IsFreeRegister, valid_wires, with_valid, with_nexts};
@@ -24,7 +25,7 @@ use std::alloc::Global;
 
 /// Declares the registers that say whether there is a word in a stage, for this many stages from 1 on.
 fn valid_bits(out: &mut Builder, count: u32) -> Result<Items<Wire>, NoMemory>
-    requires few { count < 64 }
+    requires few { count < 9 }
     requires names { (stage : ℕ) → 1 ≤ stage → stage ≤ count
         → IsNew (valid_name stage) (names_of out.old) }
     requires fresh { CanFresh out.old }
@@ -35,7 +36,8 @@ fn valid_bits(out: &mut Builder, count: u32) -> Result<Items<Wire>, NoMemory>
 {
     let alloc = out.allocator();
     let mut valid = Items::new(alloc);
-    for stage in 1..=count {
+    for place in 0..count {
+        let stage = place + 1;
         let name = format!(in alloc; "v_{stage}")?;
         let register = out.register(name.as_bytes(), 1, 0)?;
         valid.push(register)?;
@@ -91,7 +93,8 @@ fn make_rest(
     requires stages { length valid.now ≡ design.now.stages - 1 }
     requires valid { Each (IsBit out.old.nets) valid.now }
     ensures made { IfOk result (IsMade design.now given.now valid.now out.new) }
-    ensures builds { OnOk result (Builds (numbers valid.now ++ killing given.now) out.old out.new) }
+    ensures builds { OnOk result (BuildsComparing (compared_in design.now given.now.words)
+        (numbers valid.now ++ killing given.now) out.old out.new) }
     ensures follows { IfOk result (MadeFollows given.now valid.now out.new) }
 {
     let decoded = decoded(out, design, given.words.as_slice())?;
@@ -117,7 +120,7 @@ pub fn control(design: &Design, given: &ControlGiven, out: &mut Builder) -> Resu
     requires names { HasNoValid design.now out.old }
     requires fresh { CanFresh out.old }
     ensures control { IfOk result (IsControl design.now given.now out.new) }
-    ensures adds { IfOk result (AddsControl design.now out.old out.new) }
+    ensures adds { IfOk result (AddsControl design.now given.now out.old out.new) }
     ensures follows { IfOk result (FollowsGiven given.now out.old out.new) }
 {
     out.rules();

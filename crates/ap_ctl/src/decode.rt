@@ -7,8 +7,8 @@ ghost use Rattle.ap_net.specs.Cells.{IsNet};
 ghost use Rattle.ap_net.specs.Draft.{CanFresh};
 ghost use Rattle.ap_net.specs.Pending.{IsFrom};
 ghost use Rattle.ap_net.specs.Ready.{numbers};
-ghost use Rattle.ap_ctl.specs.Building.{Builds, Gives, GivesEach, Tells};
-ghost use Rattle.ap_ctl.specs.Decoding.{field_tests, is_same_test, passes, tests_of, FitsWord, IsCompared, is_wanted, compared_net};
+ghost use Rattle.ap_ctl.specs.Building.{BuildsComparing, Gives, GivesComparing, GivesEachComparing, Tells};
+ghost use Rattle.ap_ctl.specs.Decoding.{field_tests, is_same_test, passes, tests_of, FitsWord, IsCompared, is_wanted, compared_in, compared_net, with_tests};
 ghost use Rattle.ap_ctl.specs.Given.{IsWordNet};
 ghost use Rattle.ap_ctl.specs.Lists.{EachPair};
 ghost use Rattle.ap_ctl.specs.Nets.{AreDecoded, FollowsWord};
@@ -35,7 +35,8 @@ fn compare(out: &mut Builder, word: Wire, test: FieldTest) -> Result<Wire, NoMem
     requires word { IsNet out.old.nets word }
     requires test { FitsWord word.width test }
     ensures tells { IfOk result (Tells out.new (λ r. passes (r.read word.number) test)) }
-    ensures gives { IfOk result (Gives (word.number ∷ []) out.old out.new) }
+    ensures gives { IfOk result (GivesComparing ((word, test) ∷ []) (word.number ∷ [])
+        out.old out.new) }
 {
     let high = test.low + test.width - 1;
     let bits = out.make(test.width, Cell::Slice(word, high, test.low))?;
@@ -55,8 +56,8 @@ fn compare_all(
     requires tests { Each (FitsWord word.width) tests.now }
     ensures tests { IfOk result (λ made. map (λ c. c.test) made ≡ tests.now) }
     ensures tells { IfOk result (Each (IsCompared out.new word)) }
-    ensures gives { IfOk result (λ made.
-        GivesEach (word.number ∷ []) out.old out.new (map compared_net made)) }
+    ensures gives { IfOk result (λ made. GivesEachComparing (with_tests tests.now word)
+        (word.number ∷ []) out.old out.new (map compared_net made)) }
 {
     let mut made = Items::new(out.allocator());
     for test in tests {
@@ -67,16 +68,14 @@ fn compare_all(
 }
 
 /// The nets of those tests that are wanted.
-fn nets_of(alloc: Global, made: &[Compared], wanted: &[FieldTest]) -> Result<Items<Wire>, AllocError>
+fn nets_of(alloc: Global, made: &[Compared], wanted: &[FieldTest]) -> Result<Vec<Wire>, AllocError>
     ensures { IfOk result (λ nets.
-        nets ≡ map compared_net (filter (is_wanted wanted.now) made.now)) }
+        nets.items ≡ map compared_net (filter (is_wanted wanted.now) made.now)) }
 {
-    let nets = made
-        .iter()
+    made.iter()
         .filter(|c| is_among(c.test, wanted))
         .map(|c| c.net)
-        .collect(alloc)?;
-    Ok(Items::of(nets))
+        .collect(alloc)
 }
 
 /// Whether the word passes the tests that are wanted.
@@ -93,7 +92,8 @@ fn condition(
         (filter (is_wanted wanted.now) made.now))) }
     ensures gives { IfOk result (Gives (numbers (map compared_net made.now)) out.old out.new) }
 {
-    let nets = nets_of(out.allocator(), made, wanted)?;
+    let chosen = nets_of(out.allocator(), made, wanted)?;
+    let nets = Items::of(chosen);
     let hit = all_of(out, nets.as_slice())?;
     Ok(hit)
 }
@@ -110,15 +110,17 @@ fn conditions(
     requires tests { tests.now ≡ field_tests design.now }
     requires word { IsWordNet design.now out.old.nets word }
     ensures tells { IfOk result (AreDecoded design.now out.new word) }
-    ensures gives { IfOk result (GivesEach (word.number ∷ []) out.old out.new) }
+    ensures gives { IfOk result (GivesEachComparing (with_tests (field_tests design.now) word)
+        (word.number ∷ []) out.old out.new) }
 {
     clean_is_encoded();
     let alloc = out.allocator();
     let made = compare_all(out, word, tests)?;
+    let table = made.as_slice();
     let mut conditions = Items::new(alloc);
     for instr in design.instrs.as_slice() {
         let wanted = tests_of(alloc, design, instr)?;
-        let hit = condition(out, word, made.as_slice(), wanted.as_slice())?;
+        let hit = condition(out, word, table, wanted.as_slice())?;
         conditions.push(hit)?;
     }
     Ok(conditions)
@@ -130,7 +132,8 @@ pub fn decoded(out: &mut Builder, design: &Design, words: &[Wire]) -> Result<Ite
     requires fresh { CanFresh out.old }
     requires words { Each (IsWordNet design.now out.old.nets) words.now }
     ensures tells { IfOk result (EachPair (AreDecoded design.now out.new) words.now) }
-    ensures builds { OnOk result (Builds (numbers words.now) out.old out.new) }
+    ensures builds { OnOk result (BuildsComparing (compared_in design.now words.now)
+        (numbers words.now) out.old out.new) }
     ensures came { IfOk result (λ lists.
         Each (IsFrom (numbers words.now) out.old out.new) (flat_map numbers lists)) }
     ensures follows { IfOk result (EachPair (FollowsWord out.new) words.now) }

@@ -2,11 +2,11 @@
 ghost use Rattle.std.specs.Prelude.{◌≡◌, IfOk, OnOk, fold, filter_map, zip, flat_map};
 ghost use Rattle.std.specs.List.{list_any};
 ghost use Rattle.ap_desc.specs.Designs.{fields_of};
-ghost use Rattle.ap_ctl.specs.Decoding.{field_tests, is_same_test, tests_of, with_test};
+ghost use Rattle.ap_ctl.specs.Decoding.{field_tests, is_same_test, test_of, tests_of, with_test};
 
 use ap_bits::{Items, NoMemory};
 use ap_desc::design::{Design, Field, Instr};
-use std::alloc::Global;
+use std::alloc::{AllocError, Global};
 
 /// Some bits of a code word, and the value that they are compared with.
 #[derive(Clone, Copy, Debug, PartialEq, Eq)]
@@ -29,22 +29,35 @@ fn fields_of<'a>(design: &'a Design, instr: &Instr) -> &'a [Field]
     }
 }
 
-/// The tests of an instruction: one for each field that it fixes, in the order of its format.
-pub fn tests_of(alloc: Global, design: &Design, instr: &Instr) -> Result<Items<FieldTest>, NoMemory>
-    ensures { IfOk result (λ tests. tests ≡ tests_of design.now instr.now) }
+/// The tests of those fields that have a fixed value.
+fn fixed_tests(
+    alloc: Global,
+    fields: &[Field],
+    fixed: &[Option<u64>],
+) -> Result<Vec<FieldTest>, AllocError>
+    ensures { IfOk result (λ tests.
+        tests.items ≡ filter_map test_of (zip fields.now fixed.now)) }
 {
-    let fields = fields_of(design, instr).iter();
-    let tests = fields
-        .zip(instr.fixed.as_slice())
+    fields
+        .iter()
+        .zip(fixed)
         .filter_map(|(field, fixed)| match fixed {
+            None => None,
             Some(value) => Some(FieldTest {
                 low: field.low,
                 width: field.width,
                 value: *value,
             }),
-            None => None,
         })
-        .collect(alloc)?;
+        .collect(alloc)
+}
+
+/// The tests of an instruction: one for each field that it fixes, in the order of its format.
+pub fn tests_of(alloc: Global, design: &Design, instr: &Instr) -> Result<Items<FieldTest>, NoMemory>
+    ensures { IfOk result (λ tests. tests ≡ tests_of design.now instr.now) }
+{
+    let fields = fields_of(design, instr);
+    let tests = fixed_tests(alloc, fields, instr.fixed.as_slice())?;
     Ok(Items::of(tests))
 }
 
@@ -62,15 +75,23 @@ pub fn is_among(test: FieldTest, tests: &[FieldTest]) -> bool
     tests.iter().any(|other| is_same_test(test, *other))
 }
 
+/// Adds the test, unless it is there.
+fn add_test(tests: &mut Items<FieldTest>, test: FieldTest) -> Result<(), NoMemory>
+    ensures { OnOk result (tests.new ≡ with_test tests.old test) }
+{
+    if is_among(test, tests.as_slice()) {
+        return Ok(());
+    }
+    tests.push(test)?;
+    Ok(())
+}
+
 /// Adds those of the tests that aren't there yet.
 fn add_tests(tests: &mut Items<FieldTest>, more: &[FieldTest]) -> Result<(), NoMemory>
     ensures { OnOk result (tests.new ≡ fold with_test tests.old more.now) }
 {
     for test in more {
-        if is_among(*test, tests.as_slice()) {
-            continue;
-        }
-        tests.push(*test)?;
+        add_test(tests, *test)?;
     }
     Ok(())
 }

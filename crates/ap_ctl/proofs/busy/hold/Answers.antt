@@ -16,7 +16,7 @@ pub returns-clause-shows : goal.returns-clause-shows
 unfolding is_held_stage
 returns-clause-shows c = λ stage.
     let y = c.in_ok-held.ensures in
-    meant (λ r s e look sees. e ∙ ap bit (ap (list_any (is_on r)) c.as_slice.ensures ∙ c.in_ok-nets.ensures.tells.holds r (settled_builds y.gives.builds r s) look sees)) y.tells
+    meant (λ r s e look sees. e ∙ ap bit (ap (list_any (is_on r)) c.as_slice.ensures ∙ c.in_ok-nets.ensures.tells.holds r (settled_builds y.gives.builds r s) look sees)) y.tells.carries
 
 pub returns-clause-gives : goal.returns-clause-gives
 returns-clause-gives c =

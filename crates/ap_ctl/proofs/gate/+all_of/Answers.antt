@@ -5,8 +5,9 @@ use Rattle.ap_net.specs.declared.cell.Wire.{Wire}
 use Rattle.ap_net.specs.Pending.{Among}
 use Rattle.ap_net.specs.Ready.{numbers}
 use Rattle.ap_ctl.specs.Building.{IsBit, is_on}
-use Rattle.ap_ctl.proofs.Bits.{Each-drop, Each-take, none_all, on_of, one_all, told, all_halves, joined_all}
-use Rattle.ap_ctl.proofs.Built.{EachBit-Builds, Gives-made, Tells-Builds, among_nets, among_some, one_gives, pair_gives}
+use Rattle.ap_ctl.proofs.Beside.{no_wire}
+use Rattle.ap_ctl.proofs.Bits.{IsBit-Tells, Each-drop, Each-take, none_all, on_of, one_all, told, all_halves, joined_all}
+use Rattle.ap_ctl.proofs.Built.{IsBit-Builds, EachBit-Builds, Gives-made, Tells-Builds, among_nets, among_some, one_gives, pair_gives}
 use Rattle.ap_ctl.proofs.gate.+all_of.Goals as goal
 
 pub all_of-requires-2 : goal.all_of-requires-2
@@ -32,3 +33,15 @@ returns-clause-gives t c =
     c.in_ok-first.ensures.gives (among_some nets (take middle nets) (Each-take P middle nets (among_nets nets)))
     c.in_ok-second.ensures.gives (among_some nets (take (length nets - middle) (drop middle nets)) (Each-take P (length nets - middle) (drop middle nets) (Each-drop P middle nets (among_nets nets))))
     c.in_ok-all.ensures.gives
+
+pub returns-then-nets-eq1-clause-tells : goal.returns-then-nets-eq1-clause-tells
+returns-then-nets-eq1-clause-tells t c = one_all c.args.out.now c.args.nets.now no_wire (omega arith) c.requires.nets
+
+pub returns-then-nets-eq1-clause-gives : goal.returns-then-nets-eq1-clause-gives
+returns-then-nets-eq1-clause-gives t c = one_gives c.args.out.now c.args.nets.now no_wire c.requires.fresh (omega arith)
+
+pub both-requires-clause-a : goal.both-requires-clause-a
+both-requires-clause-a t c = IsBit-Builds c.in_ok-second.ensures.gives.builds c.in_ok-first.first (IsBit-Tells c.in_ok-first.ensures.tells)
+
+pub both-requires-clause-b : goal.both-requires-clause-b
+both-requires-clause-b t c = IsBit-Tells c.in_ok-second.ensures.tells

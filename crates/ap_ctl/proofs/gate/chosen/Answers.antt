@@ -11,4 +11,4 @@ returns-clause-tells c = choice_tells c.in_ok-chosen.ensures.makes c.args.s c.ar
 pub returns-clause-gives : goal.returns-clause-gives
 returns-clause-gives c =
     let y = c.in_ok-chosen.ensures in
-    Gives-made c.args.out.now c.make.new.self 1 (cell.Choose c.args.s c.args.a c.args.b) c.in_ok-chosen.chosen y.ok y.wire c.requires.fresh y.makes y.reads y.net.0 refl
+    Gives-made c.args.out.now c.make.new.self 1 (cell.Choose c.args.s c.args.a c.args.b) c.in_ok-chosen.chosen y.ok y.wire c.requires.fresh y.makes y.reads y.net.0 refl refl

@@ -11,4 +11,4 @@ returns-clause-tells c = or_tells c.in_ok-either.ensures.makes c.args.a c.args.b
 pub returns-clause-gives : goal.returns-clause-gives
 returns-clause-gives c =
     let y = c.in_ok-either.ensures in
-    Gives-made c.args.out.now c.make.new.self 1 (cell.Two op.Or c.args.a c.args.b) c.in_ok-either.either y.ok y.wire c.requires.fresh y.makes y.reads y.net.0 refl
+    Gives-made c.args.out.now c.make.new.self 1 (cell.Two op.Or c.args.a c.args.b) c.in_ok-either.either y.ok y.wire c.requires.fresh y.makes y.reads y.net.0 refl refl

@@ -11,4 +11,4 @@ returns-clause-tells c = not_tells c.in_ok-inverse.ensures.makes c.args.a c.in_o
 pub returns-clause-gives : goal.returns-clause-gives
 returns-clause-gives c =
     let y = c.in_ok-inverse.ensures in
-    Gives-made c.args.out.now c.make.new.self 1 (cell.Not c.args.a) c.in_ok-inverse.inverse y.ok y.wire c.requires.fresh y.makes y.reads y.net.0 refl
+    Gives-made c.args.out.now c.make.new.self 1 (cell.Not c.args.a) c.in_ok-inverse.inverse y.ok y.wire c.requires.fresh y.makes y.reads y.net.0 refl refl

@@ -6,7 +6,7 @@ use Rattle.ap_net.specs.Pending.{Among}
 use Rattle.ap_ctl.specs.Building.{IsBit, Tells, is_on}
 use Rattle.ap_ctl.specs.Lists.{EachFrom}
 use Rattle.ap_ctl.specs.Moves.{coming_of, is_on_at, next_numbers, next_of}
-use Rattle.ap_ctl.proofs.Beside.{EachFrom-push, EachFrom-weaker, each_index}
+use Rattle.ap_ctl.proofs.Beside.{EachFrom-push, EachFrom-weaker, each_index, no_wire}
 use Rattle.ap_ctl.proofs.Bits.{told}
 use Rattle.ap_ctl.proofs.Built.{Builds-refl, GivesEach-push, IsBit-Builds, Tells-Builds, from_these}
 use Rattle.ap_ctl.proofs.Firing.{next_among, next_valid_among, on_at, one_has}
@@ -22,7 +22,7 @@ chosen-requires c =
     record {
       fresh = p.fresh;
       s = IsBit-Builds p c.args.gates.hold c.requires.hold;
-      a = IsBit-Builds p _ (each_index (IsBit c.args.out.now.nets) c.args.valid.now c.loop-place.place _ c.requires.valid inside);
+      a = IsBit-Builds p (get_or c.args.valid.now c.loop-place.place no_wire) (each_index (IsBit c.args.out.now.nets) c.args.valid.now c.loop-place.place no_wire c.requires.valid inside);
       b = IsBit-Builds p c.coming-from.result (one_has (IsBit c.args.out.now.nets) (c.args.gates.goes ∷ c.args.gates.lives ∷ c.args.fires.now) c.coming-from.result (c.requires.goes, (c.requires.lives, c.requires.fires)) c.coming-from.ensures.one);
     }
 
@@ -39,13 +39,13 @@ loop-place-preserved c =
     let from : List ℕ = next_numbers g valid fires in
     let same : place ≡ 1 + length c.loop-place.nets - 1 = omega (arith, h.long) in
     let next : Tells c.chosen.new.out (next_of design g valid fires (1 + length c.loop-place.nets)) c.in_ok-next.next =
-    told (λ r s. ap (λ b. if is_on r g.hold then b else is_on r c.coming-from.result) (sym (on_at r valid place _ inside) ∙ ap (is_on_at r valid) same)
+    told (λ r s. ap (λ b. if is_on r g.hold then b else is_on r c.coming-from.result) (sym (on_at r valid place no_wire inside) ∙ ap (is_on_at r valid) same)
     ∙ ap (λ b. if is_on r g.hold then is_on_at r valid (1 + length c.loop-place.nets - 1) else b) (c.coming-from.ensures.value r ∙ ap (λ n. coming_of design g fires n r) same)) y.tells in
     rw c.in_ok-push.ensures.ok (record {
       long = length-append c.loop-place.nets (c.in_ok-next.next ∷ []) ∙ ap (λ n. n + 1) h.long;
       tells = EachFrom-push (λ stage. Tells c.chosen.new.out (next_of design g valid fires stage)) 1 c.loop-place.nets c.in_ok-next.next
           (EachFrom-weaker (λ stage. Tells c.loop-place.out (next_of design g valid fires stage)) (λ stage. Tells c.chosen.new.out (next_of design g valid fires stage)) (λ stage w t. Tells-Builds y.gives.builds t) 1 c.loop-place.nets h.tells) next;
-      gives = GivesEach-push from _ c.args.out.now c.loop-place.out c.chosen.new.out c.loop-place.nets c.in_ok-next.next h.gives y.gives
-          (from_these from c.args.out.now c.loop-place.out _ (inl refl, (each_index (λ (w : Wire). Among from w.number) valid place _ (next_valid_among g valid fires) inside,
+      gives = GivesEach-push from (g.hold.number ∷ (get_or valid place no_wire).number ∷ c.coming-from.result.number ∷ []) c.args.out.now c.loop-place.out c.chosen.new.out c.loop-place.nets c.in_ok-next.next h.gives y.gives
+          (from_these from c.args.out.now c.loop-place.out (g.hold.number ∷ (get_or valid place no_wire).number ∷ c.coming-from.result.number ∷ []) (inl refl, (each_index (λ (w : Wire). Among from w.number) valid place no_wire (next_valid_among g valid fires) inside,
           (one_has (λ (w : Wire). Among from w.number) (g.goes ∷ g.lives ∷ fires) c.coming-from.result (next_among g valid fires) c.coming-from.ensures.one, tt))));
     })
