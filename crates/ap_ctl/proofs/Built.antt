@@ -54,7 +54,7 @@ pub from_all : (from : List ℕ) (a b : Draft) → Each (IsFrom from a b) from
 from_all from a b = Each-weaker (Among from) (IsFrom from a b) (λ n h. inl h) from (among_all from)
 
 pub Builds-refl : (from : List ℕ) (d : Draft) → CanFresh d → Builds from d d
-Builds-refl from d fresh = record { reads = Reads-refl from d; instances = refl; fresh = fresh; wires = ([], sym (append-nil d.nets), tt); assigns = ([], sym (append-nil d.assigns), tt); compares = ([], sym (append-nil (comparisons d)), tt) }
+Builds-refl from d fresh = record { reads = Reads-refl from d; instances = refl; fresh = fresh; names = λ name o h. h; ports = refl; wires = ([], sym (append-nil d.nets), tt); assigns = ([], sym (append-nil d.assigns), tt); compares = ([], sym (append-nil (comparisons d)), tt) }
 
 -- one more assign, which compares nothing
 plain_filter : (xs : List Assign) (a : Assign) → is_comparison a ≡ false → filter is_comparison (xs ++ a ∷ []) ≡ filter is_comparison xs
@@ -64,11 +64,13 @@ plain_filter xs a e = filter-append is_comparison xs (a ∷ []) ∙ ap (λ l. fi
     none true e = absurd cc
     none false e = refl
 
-Builds-made : (d : Draft) (width : ℕ) (c : Cell) → CanFresh (with_made d width c) → Reads (numbers (operands c)) d (with_made d width c) → IsControlCell width c → is_equality c ≡ false → Builds (numbers (operands c)) d (with_made d width c)
-Builds-made d width c fresh reads cell plain = record {
+Builds-made : (d : Draft) (width : ℕ) (c : Cell) → CanFresh (with_made d width c) → Makes d (with_made d width c) → Reads (numbers (operands c)) d (with_made d width c) → IsControlCell width c → is_equality c ≡ false → Builds (numbers (operands c)) d (with_made d width c)
+Builds-made d width c fresh makes reads cell plain = record {
   reads = reads;
   instances = refl;
   fresh = fresh;
+  names = makes.names;
+  ports = makes.ports;
   wires = (record { name = numbered (wire_count d.nets); width = width; role = role.Plain } ∷ [], refl, (record { number = wire_count d.nets; named = refl; plain = refl }, tt));
   assigns = (record { to = next_wire d width; cell = c } ∷ [], refl, (record { own = omega arith; cell = cell }, tt));
   compares = ([], plain_filter d.assigns (record { to = next_wire d width; cell = c }) plain ∙ sym (append-nil (comparisons d)), tt);
@@ -78,7 +80,7 @@ Builds-made d width c fresh reads cell plain = record {
 pub Gives-made : (a b : Draft) (width : ℕ) (c : Cell) (w : Wire) → b ≡ with_made a width c → w ≡ next_wire a width → CanFresh a → Makes a b → Reads (numbers (operands c)) a b → IsNet b.nets w → IsControlCell width c → is_equality c ≡ false
     → Gives (numbers (operands c)) a b w
 Gives-made a b width c w is wire fresh makes reads net cell plain = record {
-  builds = subst (λ (d : Draft). Builds (numbers (operands c)) a d) (sym is) (Builds-made a width c (subst CanFresh is (makes.fresh fresh)) (subst (λ (d : Draft). Reads (numbers (operands c)) a d) is reads) cell plain);
+  builds = subst (λ (d : Draft). Builds (numbers (operands c)) a d) (sym is) (Builds-made a width c (subst CanFresh is (makes.fresh fresh)) (subst (Makes a) is makes) (subst (λ (d : Draft). Reads (numbers (operands c)) a d) is reads) cell plain);
   result = (Yields-made (numbers (operands c)) a b width w reads wire net).result;
 }
 
@@ -92,13 +94,16 @@ there_last : {X : Type 0} (xs : List X) (x : X) → Contains (xs ++ x ∷ []) x
 there_last [] x = (zero, omega arith, refl)
 there_last (y ∷ xs) x = let (n, below, is) = there_last xs x in (suc n, omega arith, is)
 
+assign_later : (a b : Draft) (x : Assign) → Extends a b → Contains a.assigns x → Contains b.assigns x
+assign_later a b x e h = subst (λ l. Contains l x) (sym e.assigns.1) (there_stays a.assigns e.assigns.0 x h)
+
 pub comparison_later : (a b : Draft) (p : Wire × FieldTest) (x : Assign) → Extends a b → IsComparison a p x → IsComparison b p x
 comparison_later a b p x e h = record {
   bits = h.bits;
   value = h.value;
   compares = h.compares;
-  slice = subst (λ l. Contains l _) (sym e.assigns.1) (there_stays a.assigns e.assigns.0 _ h.slice);
-  constant = subst (λ l. Contains l _) (sym e.assigns.1) (there_stays a.assigns e.assigns.0 _ h.constant);
+  slice = assign_later a b (record { to = h.bits; cell = cell.Slice p.0 (p.1.low + p.1.width - 1) p.1.low }) e h.slice;
+  constant = assign_later a b (record { to = h.value; cell = cell.Const p.1.value }) e h.constant;
 }
 
 pairs_join : {X Y : Type 0} (P : X → Y → Type 0) (xs : List X) (ys : List Y) (us : List X) (vs : List Y) → EachPair P xs ys → EachPair P us vs → EachPair P (xs ++ us) (ys ++ vs)
@@ -137,6 +142,8 @@ Builds-joined {ps} {qs} from more a b c p q each = record {
   reads = Reads-joined from more a b c p.reads q.reads each;
   instances = q.instances ∙ p.instances;
   fresh = q.fresh;
+  names = λ name other h. q.names name other (p.names name other h);
+  ports = q.ports ∙ p.ports;
   wires = wires_join a b c p.wires q.wires;
   assigns = assigns_join a b c (length_Reads from a b p.reads) p.assigns q.assigns;
   compares = comparisons_join ps qs a b c q.reads.extends p.compares q.compares;
@@ -290,14 +297,16 @@ Gives-compared a b word bits value test w is wire fresh makes reads net slice co
     reads = subst (λ (d : Draft). Reads (bits.number ∷ value.number ∷ []) a d) is reads;
     instances = refl;
     fresh = subst CanFresh is (makes.fresh fresh);
+    names = (subst (Makes a) is makes).names;
+    ports = (subst (Makes a) is makes).ports;
     wires = (record { name = numbered (wire_count a.nets); width = 1; role = role.Plain } ∷ [], refl, (record { number = wire_count a.nets; named = refl; plain = refl }, tt));
     assigns = (last ∷ [], refl, (record { own = omega arith; cell = tt }, tt));
     compares = (last ∷ [], filter-append is_comparison a.assigns (last ∷ []), (record {
       bits = bits;
       value = value;
       compares = refl;
-      slice = there_stays a.assigns (last ∷ []) _ slice;
-      constant = there_stays a.assigns (last ∷ []) _ constant;
+      slice = there_stays a.assigns (last ∷ []) (record { to = bits; cell = cell.Slice word (test.low + test.width - 1) test.low }) slice;
+      constant = there_stays a.assigns (last ∷ []) (record { to = value; cell = cell.Const test.value }) constant;
     }, tt));
   });
   result = (Yields-made (bits.number ∷ value.number ∷ []) a b 1 w reads wire net).result;
@@ -310,4 +319,4 @@ pub made_there : (a b : Draft) (width : ℕ) (c : Cell) → b ≡ with_made a wi
 made_there a b width c is = subst (λ (d : Draft). Contains d.assigns (record { to = next_wire a width; cell = c })) (sym is) (there_last a.assigns (record { to = next_wire a width; cell = c }))
 
 pub made_later : (a b : Draft) (x : Assign) → Extends a b → Contains a.assigns x → Contains b.assigns x
-made_later a b x e h = subst (λ l. Contains l x) (sym e.assigns.1) (there_stays a.assigns e.assigns.0 x h)
+made_later a b x e h = assign_later a b x e h

@@ -108,3 +108,14 @@ any_flat p f (x ∷ xs) = list_any-append p (f x) (flat_map f xs) ∙ ap (λ b. 
 -- the numbers of chosen nets are among those of all
 pub among_chosen : {X : Type 0} (from : List ℕ) (p : X × Wire → Bool) (xs : List X) (ws : List Wire) → Each (λ (w : Wire). Among from w.number) ws → Each (λ (w : Wire). Among from w.number) (map net_of (filter p (zip xs ws)))
 among_chosen from p xs ws h = chosen_each (λ (w : Wire). Among from w.number) p xs ws h
+
+-- to mark elements and to choose by the marks is to choose by the test
+pub marked_same : {X : Type 0} (p : X → Bool) (xs : List X) (ws : List Wire) → map net_of (filter (λ (z : Bool × Wire). z.0) (zip (map p xs) ws)) ≡ map net_of (filter (λ (z : X × Wire). p z.0) (zip xs ws))
+marked_same p [] ws = refl
+marked_same p (x ∷ xs) [] = refl
+marked_same {X} p (x ∷ xs) (w ∷ ws) = by (marked_same p xs ws) (p x) where
+  by : (rest : map net_of (filter (λ (z : Bool × Wire). z.0) (zip (map p xs) ws)) ≡ map net_of (filter (λ (z : X × Wire). p z.0) (zip xs ws))) (b : Bool)
+      → map net_of (if b then (b, w) ∷ filter (λ (z : Bool × Wire). z.0) (zip (map p xs) ws) else filter (λ (z : Bool × Wire). z.0) (zip (map p xs) ws))
+      ≡ map net_of (if b then (x, w) ∷ filter (λ (z : X × Wire). p z.0) (zip xs ws) else filter (λ (z : X × Wire). p z.0) (zip xs ws))
+  by rest true = ap (λ l. w ∷ l) rest
+  by rest false = rest

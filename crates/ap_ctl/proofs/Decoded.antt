@@ -18,7 +18,7 @@ use Rattle.ap_ctl.specs.Building.{BuildsComparing, GivesEachComparing, IsBit, Te
 use Rattle.ap_ctl.specs.Decoding.{FitsWord, IsCompared, compared_net, field_tests, is_wanted, passes, tests_of}
 use Rattle.ap_ctl.specs.Lists.{EachPair}
 use Rattle.ap_ctl.specs.Nets.{AreDecoded, FollowsWord}
-use Rattle.ap_ctl.proofs.Beside.{EachPair-weaker, each_get}
+use Rattle.ap_ctl.proofs.Beside.{EachPair-second, EachPair-weaker, each_get}
 use Rattle.ap_ctl.proofs.Bits.{IsBit-Tells, joined_all, on_of}
 use Rattle.ap_ctl.proofs.Built.{Each-map, Each-weaker, Tells-Builds, among_nets, follows_each, follows_later}
 use Rattle.ap_ctl.proofs.Fields.{IsByFields, matched_by_fields, tests_fit}
@@ -84,3 +84,6 @@ follows_word a b word conditions g by = follows_each by (word.number ∷ []) a b
 
 pub words_later : (a b : Draft) (words : List Wire) (decoded : List (List Wire)) → Extends a b → EachPair (FollowsWord a) words decoded → EachPair (FollowsWord b) words decoded
 words_later a b words decoded e h = EachPair-weaker (FollowsWord a) (FollowsWord b) (λ word conditions f by. follows_later by (word.number ∷ []) a b conditions e (f by)) words decoded h
+
+pub decoded_bits : (design : Design) (d : Draft) (word : Wire) (conditions : List Wire) → AreDecoded design d word conditions → Each (IsBit d.nets) conditions
+decoded_bits design d word conditions h = EachPair-second (λ (i : Instr). Tells d (λ r. is_match (r.read word.number) i)) (IsBit d.nets) (λ i w t. IsBit-Tells t) design.instrs conditions h

@@ -23,7 +23,7 @@ wider from more a b f n (inr h) = inr h
 module _ (given : ControlGiven) (valid : List Wire) where
   -- with what decides on being held alone, or with what decides on a kill too
   module _ (last : List ℕ) (held : (n : ℕ) → Among (holding given) n → Among last n) where
-    whole : List ℕ
+    abbrev whole : List ℕ
     whole = numbers valid ++ last
 
     words_in : (n : ℕ) → Among (numbers given.words) n → Among whole n
@@ -53,7 +53,7 @@ module _ (given : ControlGiven) (valid : List Wire) where
   holds_in : (n : ℕ) → Among (holding given) n → Among (killing given) n
   holds_in n h = inr h
 
-  all : List ℕ
+  abbrev all : List ℕ
   all = numbers valid ++ killing given
 
   pub rest_builds : {ps : List (Wire × FieldTest)} (a b c d e f : Draft) (decoded : List (List Wire)) (g : Gates) (fires next : List Wire) → CanFresh a → BuildsComparing ps (numbers given.words) a b → Each (IsFrom (numbers given.words) a b) (flat_map numbers decoded)

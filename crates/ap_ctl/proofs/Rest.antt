@@ -86,11 +86,12 @@ module _ (design : Design) (given : ControlGiven) (valid : List Wire) (d : Draft
           open_shown r s look sees 0 ∙ let_through true (is_held design look 0 || (kills design look && is_killable design 0))
           ∙ ap (λ b. if is_held design look 0 || (kills design look && is_killable design 0) then false else b) (sym sees.fetched)
       coming_shown r s look sees (suc place) lt =
+          let next : 1 + place ≡ suc place = omega arith in
           let inside : place < length nets = omega (arith, long) in
           let w : Wire = get_or nets place given.mwait in
           let at : slice_get nets place ≡ Some w = slice_get-get_or nets place given.mwait inside in
           ap (λ o. option_map_or (is_on r) o false) at
-          ∙ shows_on (λ l. fires design l (1 + place)) w (EachFrom-at (λ stage. Shows design given valid d (λ l. fires design l stage)) 1 nets firing place w at) r s look sees
+          ∙ shows_on (λ l. fires design l (1 + place)) w (EachFrom-at (λ stage. Shows design given valid d (λ l. fires design l stage)) 1 nets firing place w at) r s look sees ∙ ap (λ n. fires design look n) next
 
       next_shown : (r : Reading) → IsSettled d r → (look : Look) → Sees design given valid r look → (stage : ℕ) → 1 ≤ stage → stage < 1 + length valid → next_of design g valid nets stage r ≡ next_valid design look stage
       next_shown r s look sees stage low high =

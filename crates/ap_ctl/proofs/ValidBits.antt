@@ -11,6 +11,8 @@ use Rattle.ap_net.specs.declared.net.ModuleNet.{ModuleNet}
 use Rattle.ap_net.specs.declared.net.Next.{Next}
 use Rattle.ap_net.specs.declared.net.Role.TheVariants as role
 use Rattle.ap_net.specs.Draft.{Draft, Extends, with_net, with_next, names_of}
+use Rattle.std.proofs.lemmas.List.Elements.{filter_map-append}
+use Rattle.ap_net.specs.Modules.{port_by, ports_among}
 use Rattle.ap_net.specs.Names.{IsNetName, IsNew, IsNotNumbered}
 use Rattle.ap_net.specs.Ready.{numbers}
 use Rattle.ap_net.specs.Wiring.{NoneTwice, Unclocked}
@@ -75,6 +77,14 @@ pub names_stay : (d : Draft) (place count : ℕ) → count < 9 → ((stage : ℕ
 names_stay d place count few h new is stage low high =
     subst (λ (x : Draft). IsNew (valid_name stage) (names_of x)) (sym is)
     (IsNew-made d.instances d.nets (record { name = valid_name (place + 1); width = 1; role = role.Register 0 }) (valid_name stage) (valid_apart (place + 1) stage (omega arith) (omega arith) low) (h stage (omega arith) high))
+
+-- a name that isn't the register's stays new, and the ports are as they were
+pub name_stays : (d : Draft) (place : ℕ) (name : List ℕ) → valid_name (place + 1) ≢ name → (new : Draft) → new ≡ with_net d (valid_name (place + 1)) 1 (role.Register 0) → IsNew name (names_of d) → IsNew name (names_of new)
+name_stays d place name ne new is h =
+    subst (λ (x : Draft). IsNew name (names_of x)) (sym is) (IsNew-made d.instances d.nets (record { name = valid_name (place + 1); width = 1; role = role.Register 0 }) name ne h)
+
+pub ports_register : (nets : List ModuleNet) (name : List ℕ) → ports_among (nets ++ record { name = name; width = 1; role = role.Register 0 } ∷ []) ≡ ports_among nets
+ports_register nets name = filter_map-append (λ (net : ModuleNet). port_by net.role net) nets (record { name = name; width = 1; role = role.Register 0 } ∷ []) ∙ append-nil (ports_among nets)
 
 -- Registers take nets.
 

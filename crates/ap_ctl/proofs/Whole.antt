@@ -12,8 +12,10 @@ use Rattle.ap_net.specs.declared.net.ModuleNet.{ModuleNet}
 use Rattle.ap_net.specs.declared.net.Next.{Next}
 use Rattle.ap_net.specs.declared.net.Role.TheVariants as role
 use Rattle.ap_net.specs.Cells.{IsNet, widths_of}
-use Rattle.ap_net.specs.Draft.{Draft, CanFresh, Extends, IsKept}
+use Rattle.ap_net.specs.Draft.{Draft, CanFresh, Extends, IsKept, names_of}
 use Rattle.ap_net.specs.Late.{StayLate}
+use Rattle.ap_net.specs.Modules.{ports_among}
+use Rattle.ap_net.specs.Names.{IsNew}
 use Rattle.ap_net.specs.Pending.{Among}
 use Rattle.ap_net.specs.Readings.{Carries}
 use Rattle.ap_net.specs.Ready.{AreReady, Dependence, Ready, ReadyAfter, numbers}
@@ -28,10 +30,10 @@ use Rattle.ap_ctl.specs.Given.{IsGiven, IsWordNet, holding, killing}
 use Rattle.ap_ctl.specs.Lists.{EachFrom, EachPair}
 use Rattle.ap_ctl.specs.Made.{IsMade, MadeFollows}
 use Rattle.ap_ctl.specs.Meaning.{Look, fires, is_held, kills, next_valid}
-use Rattle.ap_ctl.specs.Nets.{AddsControl, AreDecoded, FollowsGiven, FollowsWord, IsControl, IsFreeRegister, LooksAtNone, Shows, Takes, next_by, valid_net, valid_nets, valid_wires, with_nexts, with_valid}
+use Rattle.ap_ctl.specs.Nets.{AddsControl, AreDecoded, KeepsOthers, FollowsGiven, FollowsWord, IsControl, IsFreeRegister, LooksAtNone, Shows, Takes, next_by, valid_net, valid_nets, valid_wires, with_nexts, with_valid}
 use Rattle.ap_ctl.proofs.Bits.{IsBit-Carries}
 use Rattle.ap_ctl.proofs.Beside.{EachFrom-second, EachFrom-both, EachFrom-replicate, EachFrom-weaker, EachPair-weaker, Each-replicate}
-use Rattle.ap_ctl.proofs.Built.{comparison_later, Each-join, Each-weaker, IsBit-Extends, among_all, one_ready}
+use Rattle.ap_ctl.proofs.Built.{comparison_later, Each-join, Each-weaker, IsBit-Extends, among_all}
 use Rattle.ap_ctl.proofs.Decoded.{words_later}
 
 -- The valid bits.
@@ -42,14 +44,20 @@ valid_extends d count = record { name = refl; nets = (valid_nets count, refl); a
 pub nexts_extend : (d : Draft) (registers nets : List Wire) → Extends d (with_nexts d registers nets)
 nexts_extend d registers nets = record { name = refl; nets = ([], sym (append-nil d.nets)); assigns = ([], sym (append-nil d.assigns)); nexts = (map next_by (zip registers nets), refl); instances = ([], sym (append-nil d.instances)) }
 
+right_at : {X : Type 0} (xs ys : List X) (i : ℕ) → slice_get (xs ++ ys) (length xs + i) ≡ slice_get ys i
+right_at [] ys i = let e : 0 + i ≡ i = omega arith in ap (slice_get ys) e
+right_at (x ∷ xs) ys i = let e : suc (length xs) + i ≡ suc (length xs + i) = omega arith in ap (slice_get (x ∷ (xs ++ ys))) e ∙ right_at xs ys i
+
+range_at : (low count i : ℕ) → i < count → slice_get (map valid_net (range_with_len low count)) i ≡ Some (valid_net (low + i))
+range_at low zero i lt = absurd (omega arith)
+range_at low (suc count) zero lt = let same : low ≡ low + 0 = omega arith in ap (λ n. Some (valid_net n)) same
+range_at low (suc count) (suc i) lt =
+    let next : low + 1 + i ≡ low + suc i = omega arith in
+    range_at (low + 1) count i (omega arith) ∙ ap (λ n. Some (valid_net n)) next
+
 -- the register of a number
 valid_at : (nets : List ModuleNet) (low count i : ℕ) → i < count → slice_get (nets ++ map valid_net (range_with_len low count)) (length nets + i) ≡ Some (valid_net (low + i))
-valid_at [] low zero i lt = absurd (omega arith)
-valid_at [] low (suc count) zero lt = let same : low ≡ low + 0 = omega arith in ap (λ n. Some (valid_net n)) same
-valid_at [] low (suc count) (suc i) lt =
-    let next : low + 1 + i ≡ low + suc i = omega arith in
-    valid_at [] (low + 1) count i (omega arith) ∙ ap (λ n. Some (valid_net n)) next
-valid_at (x ∷ nets) low count i lt = valid_at nets low count i lt
+valid_at nets low count i lt = right_at nets (map valid_net (range_with_len low count)) i ∙ range_at low count i lt
 
 -- what holds of each of them by its number
 wires_each : (P : Wire → Type 0) (first count : ℕ) → ((i : ℕ) → i < count → P (record { number = first + i; width = 1 })) → Each P (valid_wires first count)
@@ -114,8 +122,8 @@ given_later a b design given e h = record {
     anything : (w : Wire) → IsNet a.nets w → Carries a w.width (λ r x. Unit {0}) w
     anything w net = record { net = net; wide = refl; means = record { holds = λ r s. tt } }
 
-pub next_bits : {design : Design} {given : ControlGiven} {valid : List Wire} {d : Draft} (nets : List Wire) → EachFrom (λ stage. Shows design given valid d (λ look. next_valid design look stage)) 1 nets → Each (IsBit d.nets) nets
-next_bits {design} {given} {valid} {d} nets h = EachFrom-second (λ stage. Shows design given valid d (λ look. next_valid design look stage)) (IsBit d.nets) (λ stage w x. IsBit-Carries x) 1 nets h
+pub next_bits : (design : Design) (given : ControlGiven) (valid : List Wire) (d : Draft) (nets : List Wire) → EachFrom (λ stage. Shows design given valid d (λ look. next_valid design look stage)) 1 nets → Each (IsBit d.nets) nets
+next_bits design given valid d nets h = EachFrom-second (λ stage. Shows design given valid d (λ look. next_valid design look stage)) (IsBit d.nets) (λ stage w x. IsBit-Carries x) 1 nets h
 
 -- What came.
 
@@ -137,17 +145,19 @@ module _ (design : Design) (given : ControlGiven) (a b c d : Draft) (from : List
   b_to_d : Extends b d
   b_to_d = Extends-trans b c d builds.reads.extends c_to_d
 
-  pub adds_control : CanFresh a → StayLate a b → StayLate c d → AddsControl design given a d nets
-  adds_control fresh first last = record {
+  pub adds_control : CanFresh a → StayLate a b → StayLate c d → ports_among b.nets ≡ ports_among a.nets → KeepsOthers (design.stages - 1) a b → 1 ≤ design.stages → AddsControl design given a d nets
+  adds_control fresh first last ports others some = record {
     extends = Extends-trans a b d a_to_b b_to_d;
     valid = valid_is;
-    wires = (builds.wires.0, (ap (λ (x : Draft). x.nets) is_d ∙ builds.wires.1 ∙ ap (λ (x : Draft). x.nets ++ builds.wires.0) is_b, builds.wires.2));
-    assigns = (builds.assigns.0, (ap (λ (x : Draft). x.assigns) is_d ∙ builds.assigns.1 ∙ ap (λ (x : Draft). x.assigns ++ builds.assigns.0) is_b, Each-weaker (IsControlAssign b) (IsControlAssign a) lower builds.assigns.0 builds.assigns.2));
-    compares = (builds.compares.0, (ap (λ (x : Draft). comparisons x) is_d ∙ builds.compares.1 ∙ ap (λ (x : Draft). comparisons x ++ builds.compares.0) is_b,
-        EachPair-weaker (IsComparison c) (IsComparison d) (λ p x h. comparison_later c d p x c_to_d h) (compared_in design given.words) builds.compares.0 builds.compares.2));
-    nexts = (map next_by (zip nets.valid made.next), (ap (λ (x : Draft). x.nexts) is_d ∙ ap (λ l. l ++ map next_by (zip nets.valid made.next)) (builds.reads.nexts ∙ ap (λ (x : Draft). x.nexts) is_b), taken_registers nets.valid made.next long));
+    wires = (builds.wires.0, ap (λ (x : Draft). x.nets) is_d ∙ builds.wires.1 ∙ ap (λ (x : Draft). x.nets ++ builds.wires.0) is_b, builds.wires.2);
+    assigns = (builds.assigns.0, ap (λ (x : Draft). x.assigns) is_d ∙ builds.assigns.1 ∙ ap (λ (x : Draft). x.assigns ++ builds.assigns.0) is_b, Each-weaker (IsControlAssign b) (IsControlAssign a) lower builds.assigns.0 builds.assigns.2);
+    compares = (builds.compares.0, ap (λ (x : Draft). comparisons x) is_d ∙ builds.compares.1 ∙ ap (λ (x : Draft). comparisons x ++ builds.compares.0) is_b,
+        EachPair-weaker (IsComparison c) (IsComparison d) (λ p x h. comparison_later c d p x c_to_d h) (compared_in design given.words) builds.compares.0 builds.compares.2);
+    nexts = (map next_by (zip nets.valid made.next), ap (λ (x : Draft). x.nexts) is_d ∙ ap (λ l. l ++ map next_by (zip nets.valid made.next)) (builds.reads.nexts ∙ ap (λ (x : Draft). x.nexts) is_b), taken_registers nets.valid made.next long);
     instances = ap (λ (x : Draft). x.instances) is_d ∙ builds.instances ∙ ap (λ (x : Draft). x.instances) is_b;
+    ports = ap (λ (x : Draft). ports_among x.nets) is_d ∙ builds.ports ∙ ports;
     fresh = subst CanFresh (sym is_d) builds.fresh;
+    names = λ name numbered no h. subst (λ (x : Draft). IsNew name (names_of x)) (sym is_d) (builds.names name numbered (others name (λ stage low high. no stage low (omega arith)) h));
     late = λ x h. last x (builds.reads.late x (first x h));
   }
     where

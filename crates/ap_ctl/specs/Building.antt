@@ -9,8 +9,9 @@ use Rattle.ap_net.specs.declared.net.Assign.{Assign}
 use Rattle.ap_net.specs.declared.net.ModuleNet.{ModuleNet}
 use Rattle.ap_net.specs.declared.net.Role.TheVariants as role
 use Rattle.ap_net.specs.Cells.{IsNet}
-use Rattle.ap_net.specs.Draft.{Draft, CanFresh}
+use Rattle.ap_net.specs.Draft.{Draft, CanFresh, KeepsNew}
 use Rattle.ap_net.specs.Late.{Reads}
+use Rattle.ap_net.specs.Modules.{ports_among}
 use Rattle.ap_net.specs.Names.{numbered}
 use Rattle.ap_net.specs.Pending.{IsFrom}
 use Rattle.ap_net.specs.Readings.{Reading, Carries}
@@ -94,6 +95,8 @@ pub record BuildsComparing (compared : List (Wire × FieldTest)) (from : List �
   pub reads : Reads from old new
   pub instances : new.instances ≡ old.instances
   pub fresh : CanFresh new
+  pub names : KeepsNew old new
+  pub ports : ports_among new.nets ≡ ports_among old.nets
   pub wires : AddsWires old new
   pub assigns : AddsAssigns old new
   pub compares : AddsComparisons compared old new

@@ -1,5 +1,5 @@
 -- The nets of control: what each of them always tells, what came with them, and what they follow from.
-use Rattle.std.specs.Prelude.{◌≡◌, ℕ, ◌+◌, ◌-◌, ◌<◌, ◌≤◌, ◌==◌, Bool, List, [], ◌∷◌, ◌++◌, length, map, zip, slice_get, Some, Contains}
+use Rattle.std.specs.Prelude.{◌≡◌, ◌≢◌, ℕ, ◌+◌, ◌-◌, ◌<◌, ◌≤◌, ◌==◌, Bool, List, [], ◌∷◌, ◌++◌, length, map, zip, slice_get, Some, Contains}
 use Rattle.std.specs.List.{AllByRecursion as Each, range_with_len}
 use Rattle.ap_desc.specs.declared.design.Design.{Design}
 use Rattle.ap_desc.specs.declared.design.Instr.{Instr}
@@ -11,7 +11,8 @@ use Rattle.ap_net.specs.declared.net.Next.{Next}
 use Rattle.ap_net.specs.declared.net.Role.TheVariants as role
 use Rattle.ap_net.specs.Draft.{Draft, Extends, CanFresh, names_of}
 use Rattle.ap_net.specs.Late.{StayLate}
-use Rattle.ap_net.specs.Names.{IsNew}
+use Rattle.ap_net.specs.Modules.{ports_among}
+use Rattle.ap_net.specs.Names.{IsNew, IsNotNumbered}
 use Rattle.ap_net.specs.Readings.{Reading, Carries}
 use Rattle.ap_net.specs.Ready.{Dependence, ReadyAfter}
 use Rattle.ap_net.specs.Runs.{bit}
@@ -40,6 +41,14 @@ valid_wires first count = map (λ number. record { number = number; width = 1 })
 
 abbrev pub with_valid : Draft → ℕ → Draft
 with_valid d count = record d { nets = d.nets ++ valid_nets count }
+
+-- the name isn't that of a valid bit
+abbrev pub IsNoValid : Design → List ℕ → Type 0
+IsNoValid design name = (stage : ℕ) → 1 ≤ stage → stage < design.stages → valid_name stage ≢ name
+
+-- other names than those of so many valid bits are as new as they were
+abbrev pub KeepsOthers : ℕ → Draft → Draft → Type 0
+KeepsOthers count old new = (name : List ℕ) → ((stage : ℕ) → 1 ≤ stage → stage ≤ count → valid_name stage ≢ name) → IsNew name (names_of old) → IsNew name (names_of new)
 
 -- no net or instance has the name of a valid bit
 abbrev pub HasNoValid : Design → Draft → Type 0
@@ -96,7 +105,9 @@ pub record AddsControl (design : Design) (given : ControlGiven) (old new : Draft
   pub compares : AddsComparisons (compared_in design given.words) old new
   pub nexts : (more : List Next) × (new.nexts ≡ old.nexts ++ more) × (map (λ (x : Next). x.register) more ≡ nets.valid)
   pub instances : new.instances ≡ old.instances
+  pub ports : ports_among new.nets ≡ ports_among old.nets
   pub fresh : CanFresh new
+  pub names : (name : List ℕ) → IsNotNumbered name → IsNoValid design name → IsNew name (names_of old) → IsNew name (names_of new)
   pub late : StayLate old new
 
 -- What it follows from.

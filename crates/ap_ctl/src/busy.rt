@@ -133,21 +133,25 @@ fn has_memory_line_in(instr: &Instr, stage: u32) -> bool
     lines.any(|m| is_memory_line(m.act))
 }
 
-/// The conditions of those of the instructions that have a memory line in the stage.
-fn readers_in(
-    alloc: Global,
-    instrs: &[Instr],
-    stage: u32,
-    conditions: &[Wire],
-) -> Result<Vec<Wire>, AllocError>
-    ensures { IfOk result (λ nets. nets.items
-        ≡ map net_of (filter (λ p. has_memory_line_in stage p.0)
-        (zip instrs.now conditions.now))) }
+/// Of each instruction whether it has a memory line in the stage.
+fn readers_in(alloc: Global, instrs: &[Instr], stage: u32) -> Result<Vec<bool>, AllocError>
+    ensures { IfOk result (λ marks. marks.items ≡ map (has_memory_line_in stage) instrs.now) }
 {
     instrs
         .iter()
-        .zip(conditions)
-        .filter(|(instr, _)| has_memory_line_in(instr, stage))
+        .map(|instr| has_memory_line_in(instr, stage))
+        .collect(alloc)
+}
+
+/// The nets of those that are marked.
+fn marked(alloc: Global, marks: &[bool], nets: &[Wire]) -> Result<Vec<Wire>, AllocError>
+    ensures { IfOk result (λ chosen. chosen.items
+        ≡ map net_of (filter (λ p. p.0) (zip marks.now nets.now))) }
+{
+    marks
+        .iter()
+        .zip(nets)
+        .filter(|(mark, _)| **mark)
         .map(|(_, net)| *net)
         .collect(alloc)
 }
@@ -161,7 +165,9 @@ fn memory_nets(
 ) -> Result<Items<Wire>, NoMemory>
     ensures { IfOk result (λ nets. nets ≡ memory_nets design.now stage conditions.now) }
 {
-    let nets = readers_in(alloc, design.instrs.as_slice(), stage, conditions)?;
+    let readers = readers_in(alloc, design.instrs.as_slice(), stage)?;
+    let marks = Items::of(readers);
+    let nets = marked(alloc, marks.as_slice(), conditions)?;
     Ok(Items::of(nets))
 }
 

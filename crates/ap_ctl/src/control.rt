@@ -11,7 +11,8 @@ ghost use Rattle.ap_ctl.specs.Building.{BuildsComparing, IsBit};
 ghost use Rattle.ap_ctl.specs.Decoding.{compared_in};
 ghost use Rattle.ap_ctl.specs.Given.{IsGiven, killing};
 ghost use Rattle.ap_ctl.specs.Made.{IsMade, MadeFollows};
-ghost use Rattle.ap_ctl.specs.Nets.{AddsControl, FollowsGiven, HasNoValid, IsControl, IsFreeRegister, valid_wires, with_valid, with_nexts};
+ghost use Rattle.ap_ctl.specs.Nets.{AddsControl, FollowsGiven, HasNoValid, IsControl, IsFreeRegister, KeepsOthers, valid_wires, with_valid, with_nexts};
+ghost use Rattle.ap_net.specs.Modules.{ports_among};
 
 use crate::busy::hold;
 use crate::decode::decoded;
@@ -33,6 +34,8 @@ fn valid_bits(out: &mut Builder, count: u32) -> Result<Items<Wire>, NoMemory>
     ensures wires { IfOk result (λ valid. valid ≡ valid_wires (length out.old.nets) count) }
     ensures fresh { OnOk result (CanFresh out.new) }
     ensures late { OnOk result (StayLate out.old out.new) }
+    ensures ports { OnOk result (ports_among out.new.nets ≡ ports_among out.old.nets) }
+    ensures others { OnOk result (KeepsOthers count out.old out.new) }
 {
     let alloc = out.allocator();
     let mut valid = Items::new(alloc);

@@ -1,6 +1,7 @@
 use Rattle.std.proofs.Common.{◌≡◌, ◌∷◌, [], ◌++◌, ℕ, List, length, refl, sym, ap, subst, ◌∙◌, arith}
 use Rattle.std.specs.Prelude.{◌&&◌, ◌||◌}
 use Rattle.std.specs.List.{AllByRecursion as Each, list_any}
+use Rattle.std.proofs.lemmas.Bool.{eqb-true}
 use Rattle.ap_net.specs.declared.cell.Wire.{Wire}
 use Rattle.ap_net.specs.Pending.{Among}
 use Rattle.ap_net.specs.Ready.{numbers}
@@ -22,7 +23,13 @@ returns-then-is_empty-clause-nets c =
     subst (λ (l : List Wire). Each (IsBit c.args.out.now.nets) l) (sym (c.in_ok-nets.ensures ∙ ap (unit_nets c.args.design.now c.args.stage) c.as_slice.ensures)) (chosen_each (IsBit c.args.out.now.nets) _ _ c.args.given.now.busy c.requires.given.busy)
 
 pub returns-then-is_empty-clause-tells : goal.returns-then-is_empty-clause-tells
-returns-then-is_empty-clause-tells c = ?
+returns-then-is_empty-clause-tells c = record {
+  holds = λ r s.
+      let none : length c.in_ok-readers.readers ≡ 0 = eqb-true (length c.in_ok-readers.readers) 0 (sym c.is_empty.ensures ∙ c.if-is_empty.true) in
+      let readers : memory_nets c.args.design.now c.args.stage c.args.conditions.now ≡ c.in_ok-readers.readers = sym c.in_ok-readers.ensures in
+      ap (list_any (is_on r)) (c.in_ok-nets.ensures ∙ ap (unit_nets c.args.design.now c.args.stage) c.as_slice.ensures)
+      ∙ none_waits (list_any (is_on r) (unit_nets c.args.design.now c.args.stage c.args.given.now.busy)) (is_on r c.args.given.now.mwait) (is_on r c.args.valid) r (memory_nets c.args.design.now c.args.stage c.args.conditions.now) (ap length readers ∙ none);
+}
 
 pub returns-then-is_empty-clause-gives : goal.returns-then-is_empty-clause-gives
 returns-then-is_empty-clause-gives c =

@@ -53,7 +53,7 @@ clock-requires c =
       registers = subst (λ (l : List Wire). Each (IsFreeRegister c.make_rest.new.out) l) (sym is)
           (valid_free a c.make_rest.new.out n c.rules.ensures (subst (λ (d : Draft). Extends d c.make_rest.new.out) v.ok m.builds.reads.extends) (m.builds.reads.nexts ∙ ap (λ (d : Draft). d.nexts) v.ok));
       apart = subst (λ (l : List Wire). NoneTwice (numbers l)) (sym is) (range_apart (length a.nets) n);
-      nets = rw c.as_slice-3.ensures (next_bits c.in_ok-made.made.next m.made.next);
+      nets = rw c.as_slice-3.ensures (next_bits design c.args.given.now c.as_slice.result.now c.make_rest.new.out c.in_ok-made.made.next m.made.next);
       long = rw c.as_slice-3.ensures (m.made.count ∙ ap length before);
     }
 
@@ -77,6 +77,6 @@ returns c =
     let count : length valid ≡ n = ap length v.wires ∙ wires_count (length a.nets) n in
     record {
       control = is_control design given a b d2 d3 from made nets v.wires v.ok builds last m.made.count m.made refl c.in_ok-hold.ensures refl refl count;
-      adds = adds_control design given a b d2 d3 from made nets v.wires v.ok builds last m.made.count c.requires.fresh v.late c.in_ok-clock.ensures.late;
+      adds = adds_control design given a b d2 d3 from made nets v.wires v.ok builds last m.made.count c.requires.fresh v.late c.in_ok-clock.ensures.late v.ports v.others (omega (arith, (stages_within design c.requires.clean).0));
       follows = follows_given design given a b d2 d3 from made nets v.wires v.ok builds last m.made.count refl m.follows refl c.in_ok-hold.ensures;
     }

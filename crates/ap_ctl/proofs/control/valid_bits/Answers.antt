@@ -3,14 +3,15 @@ use Rattle.ap_net.specs.declared.cell.Wire.{Wire}
 use Rattle.ap_net.specs.declared.net.ModuleNet.{ModuleNet}
 use Rattle.ap_net.specs.declared.net.Role.TheVariants as role
 use Rattle.ap_net.specs.Draft.{Draft, CanFresh, names_of, next_wire, with_net}
+use Rattle.ap_net.specs.Modules.{ports_among}
 use Rattle.ap_net.specs.Names.{IsNetName, IsNew, IsNotNumbered}
 use Rattle.ap_signals.specs.NetRuns.{valid_name}
 use Rattle.ap_ctl.specs.Nets.{valid_wires, with_valid}
-use Rattle.ap_ctl.proofs.ValidBits.{names_stay, valid_count, valid_is_name, valid_more, valid_none, valid_not_numbered, wires_more}
+use Rattle.ap_ctl.proofs.ValidBits.{name_stays, names_stay, ports_register, valid_count, valid_is_name, valid_more, valid_none, valid_not_numbered, wires_more}
 use Rattle.ap_ctl.proofs.control.valid_bits.Goals as goal
 
 pub loop-place-init : goal.loop-place-init
-loop-place-init c = record { out = valid_none c.args.out.now; wires = c.new-valid.ensures; names = λ stage low high. c.requires.names stage (omega arith) high; fresh = c.requires.fresh; late = λ x h. h }
+loop-place-init c = record { out = valid_none c.args.out.now; wires = c.new-valid.ensures; names = λ stage low high. c.requires.names stage (omega arith) high; fresh = c.requires.fresh; late = λ x h. h; ports = refl; others = λ name no h. h }
 
 pub register-requires : goal.register-requires
 register-requires c =
@@ -41,4 +42,6 @@ loop-place-preserved c =
       names = names_stay c.loop-place.out place c.args.count c.requires.few h.names c.register.new.self is;
       fresh = r.fresh (subst IsNotNumbered (sym name) (valid_not_numbered (place + 1))) h.fresh;
       late = λ x k. r.stay x (h.late x k);
+      ports = ap (λ (d : Draft). ports_among d.nets) is ∙ ports_register c.loop-place.out.nets (valid_name (place + 1)) ∙ h.ports;
+      others = λ name no k. name_stays c.loop-place.out place name (no (place + 1) (omega arith) (omega arith)) c.register.new.self is (h.others name (λ stage low high. no stage low (omega arith)) k);
     }
