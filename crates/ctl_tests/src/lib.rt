@@ -5,6 +5,8 @@
 #[cfg(test)]
 mod bench;
 #[cfg(test)]
+mod control_rows;
+#[cfg(test)]
 mod control_tests;
 #[cfg(test)]
 mod evaluate;

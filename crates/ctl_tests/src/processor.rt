@@ -51,6 +51,7 @@ fn formats(alloc: Global) -> Result<Items<Format>, NoMemory> {
 }
 
 /// The place of an instruction's format, its fixed fields, and the pattern that they make.
+#[derive(Clone, Copy)]
 struct Pattern<'a> {
     format: u32,
     fixed: &'a [Option<u64>],

@@ -7,7 +7,7 @@ use Rattle.ap_net.specs.Ready.{numbers}
 use Rattle.ap_ctl.specs.Building.{IsBit, is_on}
 use Rattle.ap_ctl.proofs.Beside.{no_wire}
 use Rattle.ap_ctl.proofs.Bits.{IsBit-Tells, Each-drop, Each-take, none_any, on_of, one_any, told, any_halves, joined_any}
-use Rattle.ap_ctl.proofs.Built.{IsBit-Builds, EachBit-Builds, Gives-made, Tells-Builds, among_nets, among_some, one_gives, pair_gives}
+use Rattle.ap_ctl.proofs.Built.{IsBit-Builds, EachBit-Builds, Gives-fewer, Gives-made, Tells-Builds, among_nets, among_some, one_gives, pair_gives}
 use Rattle.ap_ctl.proofs.gate.+any_of.Goals as goal
 
 pub any_of-requires-2 : goal.any_of-requires-2
@@ -45,3 +45,9 @@ either-requires-clause-a t c = IsBit-Builds c.in_ok-second.ensures.gives.builds 
 
 pub either-requires-clause-b : goal.either-requires-clause-b
 either-requires-clause-b t c = IsBit-Tells c.in_ok-second.ensures.tells
+
+pub returns-then-is_empty-clause-gives : goal.returns-then-is_empty-clause-gives
+returns-then-is_empty-clause-gives t c =
+    let y = c.in_ok-off.ensures in
+    Gives-fewer (numbers c.args.nets.now) [] c.args.out.now c.make.new.self c.in_ok-off.off c.requires.fresh
+    (Gives-made c.args.out.now c.make.new.self 1 (cell.Const 0) c.in_ok-off.off y.ok y.wire c.requires.fresh y.makes y.reads y.net.0 tt refl) tt
