@@ -301,13 +301,20 @@ Gives-compared a b word bits value test w is wire fresh makes reads net slice co
     ports = (subst (Makes a) is makes).ports;
     wires = (record { name = numbered (wire_count a.nets); width = 1; role = role.Plain } ∷ [], refl, (record { number = wire_count a.nets; named = refl; plain = refl }, tt));
     assigns = (last ∷ [], refl, (record { own = omega arith; cell = tt }, tt));
-    compares = (last ∷ [], filter-append is_comparison a.assigns (last ∷ []), (record {
-      bits = bits;
-      value = value;
-      compares = refl;
-      slice = there_stays a.assigns (last ∷ []) (record { to = bits; cell = cell.Slice word (test.low + test.width - 1) test.low }) slice;
-      constant = there_stays a.assigns (last ∷ []) (record { to = value; cell = cell.Const test.value }) constant;
-    }, tt));
+    compares = (
+      last ∷ [],
+      filter-append is_comparison a.assigns (last ∷ []),
+      (
+        record {
+          bits = bits;
+          value = value;
+          compares = refl;
+          slice = there_stays a.assigns (last ∷ []) (record { to = bits; cell = cell.Slice word (test.low + test.width - 1) test.low }) slice;
+          constant = there_stays a.assigns (last ∷ []) (record { to = value; cell = cell.Const test.value }) constant;
+        },
+        tt,
+      ),
+    );
   });
   result = (Yields-made (bits.number ∷ value.number ∷ []) a b 1 w reads wire net).result;
 }

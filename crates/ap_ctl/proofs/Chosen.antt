@@ -83,9 +83,11 @@ first_any p bits word (i ∷ instrs) lt h = by (first_any p bits word instrs lt 
   alone : (a : Bool) → ((a && true) || false) ≡ a
   alone true = refl
   alone false = refl
+
   none : (a b : Bool) → ((a && false) || b) ≡ b
   none true b = refl
   none false b = refl
+
   by : (rest : list_any (λ i. p i && is_match word i) instrs ≡ option_map_or p (find (is_match word) instrs) false) (b : Bool) → is_match word i ≡ b
       → ((p i && b) || list_any (λ i. p i && is_match word i) instrs) ≡ option_map_or p (if b then Some i else find (is_match word) instrs) false
   by rest true e = ap (λ b. (p i && true) || b) (none_match p bits word i instrs lt (eqb-true (bit_and word i.fixed_mask) i.fixed_value e) h.0) ∙ alone (p i)

@@ -42,16 +42,20 @@ module _ (design : Design) (given : ControlGiven) (valid : List Wire) (d : Draft
     open_shown r s look sees stage = by (is_killable design stage) where
       held : is_on r g.hold ≡ is_held design look stage
       held = shows_on (λ l. is_held design l stage) g.hold (hold stage) r s look sees
+
       killed : (is_on r given.taken && not (is_on r g.hold)) ≡ kills design look
       killed = sym (on_of gates.kill r s) ∙ shows_on (kills design) g.kill kill_shown r s look sees
+
       both : (h q : Bool) → (not h && not q) ≡ not (h || (q && true))
       both true q = refl
       both false true = refl
       both false false = refl
+
       one : (h q : Bool) → not h ≡ not (h || (q && false))
       one true q = refl
       one false true = refl
       one false false = refl
+
       by : (b : Bool) → is_on r (if b then g.lives else g.goes) ≡ not (is_held design look stage || (kills design look && b))
       by true = on_of gates.lives r s ∙ joined_all (ap not held) (ap not killed) ∙ both (is_held design look stage) (kills design look)
       by false = on_of gates.goes r s ∙ ap not held ∙ one (is_held design look stage) (kills design look)

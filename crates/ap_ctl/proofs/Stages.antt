@@ -112,6 +112,7 @@ stage_among valid decoded given place v conditions at there =
     among_get [] i x at = cc
     among_get (y ∷ nets) zero x at = let same : y ≡ x = cc in inl (ap (λ (w : Wire). w.number) same)
     among_get (y ∷ nets) (suc i) x at = inr (among_get nets i x at)
+
     among_flat : (lists : List (List Wire)) (i : ℕ) (l : List Wire) → slice_get lists i ≡ Some l → Each (Among (flat_map numbers lists)) (numbers l)
     among_flat [] i l at = cc
     among_flat (m ∷ lists) zero l at =

@@ -83,6 +83,7 @@ fold_each P tests (t ∷ more) h g = fold_each P (with_test tests t) more (by (l
   push : (ts : List FieldTest) → Each P ts → Each P (ts ++ t ∷ [])
   push [] k = (g.0, tt)
   push (x ∷ ts) k = (k.0, push ts k.1)
+
   by : (b : Bool) → Each P (if b then tests else tests ++ t ∷ [])
   by true = h
   by false = push tests h

@@ -86,6 +86,7 @@ below d kept n le = each d.nexts kept.wired.registers where
   within [] i w at = cc
   within (x ∷ nets) zero w at = omega arith
   within (x ∷ nets) (suc i) w at = omega (arith, within nets i w at)
+
   each : (nexts : List Next) → Each (NextFits d.nets) nexts → Each (λ (x : Next). x.register.number ≢ n) nexts
   each [] h = tt
   each (x ∷ nexts) h = ((λ e. let lt = within d.nets x.register.number x.register.width (h.0).register.declared in absurd (omega arith)), each nexts h.1)
@@ -133,7 +134,7 @@ taken_registers (r ∷ registers) [] e = absurd (omega arith)
 taken_registers (r ∷ registers) (n ∷ nets) e = ap (λ l. r ∷ l) (taken_registers registers nets (omega arith))
 
 -- the draft before, with the valid bits, with the rest, and with what the valid bits take
-module _ (design : Design) (given : ControlGiven) (a b c d : Draft) (from : List ℕ) (made : Made) (nets : ControlNets) 
+module _ (design : Design) (given : ControlGiven) (a b c d : Draft) (from : List ℕ) (made : Made) (nets : ControlNets)
     (valid_is : nets.valid ≡ valid_wires (length a.nets) (design.stages - 1)) (is_b : b ≡ with_valid a (design.stages - 1)) (builds : BuildsComparing (compared_in design given.words) from b c) (is_d : d ≡ with_nexts c nets.valid made.next)
     (long : length made.next ≡ length nets.valid) where
   a_to_b : Extends a b
@@ -151,8 +152,11 @@ module _ (design : Design) (given : ControlGiven) (a b c d : Draft) (from : List
     valid = valid_is;
     wires = (builds.wires.0, ap (λ (x : Draft). x.nets) is_d ∙ builds.wires.1 ∙ ap (λ (x : Draft). x.nets ++ builds.wires.0) is_b, builds.wires.2);
     assigns = (builds.assigns.0, ap (λ (x : Draft). x.assigns) is_d ∙ builds.assigns.1 ∙ ap (λ (x : Draft). x.assigns ++ builds.assigns.0) is_b, Each-weaker (IsControlAssign b) (IsControlAssign a) lower builds.assigns.0 builds.assigns.2);
-    compares = (builds.compares.0, ap (λ (x : Draft). comparisons x) is_d ∙ builds.compares.1 ∙ ap (λ (x : Draft). comparisons x ++ builds.compares.0) is_b,
-        EachPair-weaker (IsComparison c) (IsComparison d) (λ p x h. comparison_later c d p x c_to_d h) (compared_in design given.words) builds.compares.0 builds.compares.2);
+    compares = (
+      builds.compares.0,
+      ap (λ (x : Draft). comparisons x) is_d ∙ builds.compares.1 ∙ ap (λ (x : Draft). comparisons x ++ builds.compares.0) is_b,
+      EachPair-weaker (IsComparison c) (IsComparison d) (λ p x h. comparison_later c d p x c_to_d h) (compared_in design given.words) builds.compares.0 builds.compares.2,
+    );
     nexts = (map next_by (zip nets.valid made.next), ap (λ (x : Draft). x.nexts) is_d ∙ ap (λ l. l ++ map next_by (zip nets.valid made.next)) (builds.reads.nexts ∙ ap (λ (x : Draft). x.nexts) is_b), taken_registers nets.valid made.next long);
     instances = ap (λ (x : Draft). x.instances) is_d ∙ builds.instances ∙ ap (λ (x : Draft). x.instances) is_b;
     ports = ap (λ (x : Draft). ports_among x.nets) is_d ∙ builds.ports ∙ ports;
@@ -163,6 +167,7 @@ module _ (design : Design) (given : ControlGiven) (a b c d : Draft) (from : List
     where
       shorter : length a.nets ≤ length b.nets
       shorter = let e : length b.nets ≡ length (a.nets ++ valid_nets (design.stages - 1)) = ap (λ (x : Draft). length x.nets) is_b in omega (arith, length-append a.nets (valid_nets (design.stages - 1)))
+
       lower : (x : Assign) → IsControlAssign b x → IsControlAssign a x
       lower x h = let low : length b.nets ≤ x.to.number = h.own in let le = shorter in record { own = omega arith; cell = h.cell }
 
@@ -198,6 +203,8 @@ module _ (design : Design) (given : ControlGiven) (a b c d : Draft) (from : List
     next = takes m.next;
     decoded = subst (EachPair (AreDecoded design d) given.words) (sym decoded) (decoded_grows m.decoded);
     hold = subst (EachFrom (λ stage. Shows design given nets.valid d (λ look. is_held design look stage)) 0) (sym hold) (EachFrom-replicate (λ stage. Shows design given nets.valid d (λ look. is_held design look stage)) 0 design.stages made.gates.hold (λ stage. shows_later (λ look. is_held design look stage) made.gates.hold (m.hold stage)));
+    frozen = λ stage. subst (λ (l : List Wire). Each (Shows design given nets.valid d (λ look. is_held design look stage)) l) (sym hold)
+        (Each-replicate (Shows design given nets.valid d (λ look. is_held design look stage)) design.stages made.gates.hold (shows_later (λ look. is_held design look stage) made.gates.hold (m.hold stage)));
     stages = ap length hold ∙ length_replicate design.stages made.gates.hold;
     fires = subst (EachFrom (λ stage. Shows design given nets.valid d (λ look. fires design look stage)) 1) (sym firing) (EachFrom-weaker (λ stage. Shows design given nets.valid c (λ look. fires design look stage)) (λ stage. Shows design given nets.valid d (λ look. fires design look stage)) (λ stage w h. shows_later (λ look. fires design look stage) w h) 1 made.fires m.fires);
     flights = ap length firing ∙ m.flights ∙ counted;
@@ -255,8 +262,10 @@ module _ (design : Design) (given : ControlGiven) (a b c d : Draft) (from : List
       length_map : {X Y : Type 0} (f : X → Y) (xs : List X) → length (map f xs) ≡ length xs
       length_map f [] = refl
       length_map f (x ∷ xs) = ap suc (length_map f xs)
+
       length_range : (low n : ℕ) → length (range_with_len low n) ≡ n
       length_range low zero = refl
       length_range low (suc n) = ap suc (length_range (low + 1) n)
+
       b_long : length b.nets ≡ length a.nets + (design.stages - 1)
       b_long = ap (λ (x : Draft). length x.nets) is_b ∙ length-append a.nets (valid_nets (design.stages - 1)) ∙ ap (λ n. length a.nets + n) (length_map valid_net (range_with_len 1 (design.stages - 1)) ∙ length_range 1 (design.stages - 1))

@@ -89,6 +89,8 @@ pub record IsControl (design : Design) (given : ControlGiven) (d : Draft) (nets 
   pub decoded : EachPair (AreDecoded design d) given.words nets.decoded
   pub hold : EachFrom (λ stage. Shows design given nets.valid d (λ look. is_held design look stage)) 0 nets.hold
   pub stages : length nets.hold ≡ design.stages
+  -- the whole pipeline freezes: each of the nets says it of every stage
+  pub frozen : (stage : ℕ) → Each (Shows design given nets.valid d (λ look. is_held design look stage)) nets.hold
   pub fires : EachFrom (λ stage. Shows design given nets.valid d (λ look. fires design look stage)) 1 nets.fires
   pub flights : length nets.fires ≡ design.stages - 1
   pub kill : Shows design given nets.valid d (kills design) nets.kill

@@ -172,12 +172,7 @@ fn memory_nets(
 }
 
 /// Whether a valid word that fulfils one of the conditions waits for a memory.
-fn waits(
-    out: &mut Builder,
-    mwait: Wire,
-    valid: Wire,
-    conditions: &[Wire],
-) -> Result<Wire, NoMemory>
+fn waits(out: &mut Builder, mwait: Wire, valid: Wire, conditions: &[Wire]) -> Result<Wire, NoMemory>
     requires fresh { CanFresh out.old }
     requires mwait { IsBit out.old.nets mwait }
     requires valid { IsBit out.old.nets valid }

@@ -117,7 +117,11 @@ fn make_rest(
 /// transfer is taken. A stage is busy where a unit that it uses isn't done, or where memories have its word wait; busy stages
 /// hold the stages before them. What a transfer kills is told by its stage and its slots. The nets that are given may be driven
 /// later. After an error the builder is good for nothing but to be dropped.
-pub fn control(design: &Design, given: &ControlGiven, out: &mut Builder) -> Result<ControlNets, NoMemory>
+pub fn control(
+    design: &Design,
+    given: &ControlGiven,
+    out: &mut Builder,
+) -> Result<ControlNets, NoMemory>
     requires clean { IsClean design.now }
     requires given { IsGiven design.now out.old.nets given.now }
     requires names { HasNoValid design.now out.old }

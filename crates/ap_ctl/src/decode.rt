@@ -127,7 +127,11 @@ fn conditions(
 }
 
 /// For each of these words and each instruction whether the word matches it.
-pub fn decoded(out: &mut Builder, design: &Design, words: &[Wire]) -> Result<Items<Items<Wire>>, NoMemory>
+pub fn decoded(
+    out: &mut Builder,
+    design: &Design,
+    words: &[Wire],
+) -> Result<Items<Items<Wire>>, NoMemory>
     requires clean { IsClean design.now }
     requires fresh { CanFresh out.old }
     requires words { Each (IsWordNet design.now out.old.nets) words.now }

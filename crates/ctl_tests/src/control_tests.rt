@@ -70,7 +70,13 @@ fn next_of(module: &Module, values: &Values, stage: usize) -> u64 {
 }
 
 /// A word of stage 2, and whether it reads or writes the memory there: NOP, MUL 3 1 2, LD 1 1 0, ST 1 1 0, BZ 1 5.
-const STAGE_TWO: [(u64, bool); 5] = [(0, false), (0x1651, false), (0x3240, true), (0x4240, true), (0x5205, false)];
+const STAGE_TWO: [(u64, bool); 5] = [
+    (0, false),
+    (0x1651, false),
+    (0x3240, true),
+    (0x4240, true),
+    (0x5205, false),
+];
 
 /// In all cycles: the multiplier's busy and a memory word that waits hold all stages; a transfer that is taken while nothing is
 /// held kills the fetched word alone, since stage 1 has its slot.
@@ -101,10 +107,22 @@ fn stages_go_on(rt: HostRuntime) -> Result<(), Fail> {
             for stage in 1..4 {
                 let valid = bit(2 + stage as u64);
                 let fires = valid & (1 - held);
-                assert_eq!(rt; values.get(FIRES + stage - 1), fires, "{word} {bits} {stage}");
-                let coming = if stage == 1 { 1 - kill } else { bit(1 + stage as u64) };
+                assert_eq!(rt;
+                    values.get(FIRES + stage - 1),
+                    fires,
+                    "{word} {bits} {stage}"
+                );
+                let coming = if stage == 1 {
+                    1 - kill
+                } else {
+                    bit(1 + stage as u64)
+                };
                 let next = if held == 1 { valid } else { coming };
-                assert_eq!(rt; next_of(&module, &values, stage), next, "{word} {bits} {stage}");
+                assert_eq!(rt;
+                    next_of(&module, &values, stage),
+                    next,
+                    "{word} {bits} {stage}"
+                );
             }
         }
     }

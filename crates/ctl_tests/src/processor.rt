@@ -1,13 +1,17 @@
 //! The processor that is tested: four stages, transfers in stage 2 with one slot, a multiplier of 17 cycles in stage 2, and a memory
 //! that is read and written in stage 2.
 
-
 use ap_bits::{Items, Name, NoMemory};
 use ap_desc::design::{Act, Arg, Design, Field, File, Format, InPort, Instr, Mem, Micro, Unit};
 use std::alloc::Global;
 
 /// A format of these fields, each with its width and its lowest bit.
-fn format(alloc: Global, name: &[u8], line: u32, parts: &[(&str, u32, u32)]) -> Result<Format, NoMemory> {
+fn format(
+    alloc: Global,
+    name: &[u8],
+    line: u32,
+    parts: &[(&str, u32, u32)],
+) -> Result<Format, NoMemory> {
     let mut fields = Items::new(alloc);
     for (name, width, low) in parts {
         fields.push(Field {
@@ -33,19 +37,9 @@ fn formats(alloc: Global) -> Result<Items<Format>, NoMemory> {
         ("fn", 3, 0),
     ];
     formats.push(format(alloc, b"R", 11, &r)?)?;
-    let i = [
-        ("op", 4, 12),
-        ("rd", 3, 9),
-        ("rs", 3, 6),
-        ("imm", 6, 0),
-    ];
+    let i = [("op", 4, 12), ("rd", 3, 9), ("rs", 3, 6), ("imm", 6, 0)];
     formats.push(format(alloc, b"I", 12, &i)?)?;
-    let j = [
-        ("op", 4, 12),
-        ("rd", 3, 9),
-        ("z", 3, 6),
-        ("t", 6, 0),
-    ];
+    let j = [("op", 4, 12), ("rd", 3, 9), ("z", 3, 6), ("t", 6, 0)];
     formats.push(format(alloc, b"J", 13, &j)?)?;
     Ok(formats)
 }
@@ -88,8 +82,11 @@ fn instr(
 }
 
 const RD: Arg = Arg::Field(1);
+
 const RS: Arg = Arg::Field(2);
+
 const RT: Arg = Arg::Field(3);
+
 const IMM: Arg = Arg::Field(3);
 
 fn read(port: u32, index: Arg) -> Act {
@@ -120,7 +117,13 @@ fn write(value: u32) -> Act {
 }
 
 /// An instruction of format R that computes from two cells: `op=1` and this `fn`.
-fn of_two_cells(alloc: Global, name: &[u8], line: u32, number: u64, act: Act) -> Result<Instr, NoMemory> {
+fn of_two_cells(
+    alloc: Global,
+    name: &[u8],
+    line: u32,
+    number: u64,
+    act: Act,
+) -> Result<Instr, NoMemory> {
     let fixed = [Some(1), None, None, None, Some(number)];
     let pattern = Pattern {
         format: 0,
@@ -155,56 +158,81 @@ fn arithmetic(alloc: Global, instrs: &mut Items<Instr>) -> Result<(), NoMemory> 
     instrs.push(of_two_cells(alloc, b"MUL", 22, 1, compute(2, 0, 0, 1))?)?;
     instrs.push(of_two_cells(alloc, b"SLL", 28, 2, compute(1, 0, 0, 1))?)?;
     let addi = [Some(2), None, None, None];
-    let sext = Act::Sext {
-        width: 16,
-        a: IMM,
-    };
-    let micros = [(1, read(0, RS)), (1, sext), (2, compute(0, 0, 0, 1)), (3, write(2))];
+    let sext = Act::Sext { width: 16, a: IMM };
+    let micros = [
+        (1, read(0, RS)),
+        (1, sext),
+        (2, compute(0, 0, 0, 1)),
+        (3, write(2)),
+    ];
     instrs.push(instr(alloc, b"ADDI", 34, by_op(&addi, 2), &[16, 16, 16], &micros)?)?;
     Ok(())
 }
 
 fn memory(alloc: Global, instrs: &mut Items<Instr>) -> Result<(), NoMemory> {
-    let sext = Act::Sext {
-        width: 16,
-        a: IMM,
-    };
+    let sext = Act::Sext { width: 16, a: IMM };
     let ld = [Some(3), None, None, None];
     let micros = [
         (1, read(0, RS)),
         (1, sext),
         (2, compute(0, 0, 0, 1)),
-        (2, Act::Slice {
-            high: 7,
-            low: 0,
-            a: Arg::Local(2),
-        }),
-        (2, Act::ReadMem {
-            mem: 0,
-            at: Arg::Local(3),
-        }),
+        (
+            2,
+            Act::Slice {
+                high: 7,
+                low: 0,
+                a: Arg::Local(2),
+            },
+        ),
+        (
+            2,
+            Act::ReadMem {
+                mem: 0,
+                at: Arg::Local(3),
+            },
+        ),
         (3, write(4)),
     ];
-    instrs.push(instr(alloc, b"LD", 40, by_op(&ld, 3), &[16, 16, 16, 8, 16], &micros)?)?;
+    instrs.push(instr(
+        alloc,
+        b"LD",
+        40,
+        by_op(&ld, 3),
+        &[16, 16, 16, 8, 16],
+        &micros,
+    )?)?;
     let st = [Some(4), None, None, None];
     let micros = [
         (1, read(0, RS)),
         (1, read(1, RD)),
         (1, sext),
         (2, compute(0, 0, 0, 2)),
-        (2, Act::Slice {
-            high: 7,
-            low: 0,
-            a: Arg::Local(3),
-        }),
-        (2, Act::WriteMem {
-            mem: 0,
-            at: Arg::Local(4),
-            value: Arg::Local(1),
-            guard: None,
-        }),
+        (
+            2,
+            Act::Slice {
+                high: 7,
+                low: 0,
+                a: Arg::Local(3),
+            },
+        ),
+        (
+            2,
+            Act::WriteMem {
+                mem: 0,
+                at: Arg::Local(4),
+                value: Arg::Local(1),
+                guard: None,
+            },
+        ),
     ];
-    instrs.push(instr(alloc, b"ST", 48, by_op(&st, 4), &[16, 16, 16, 16, 8], &micros)?)?;
+    instrs.push(instr(
+        alloc,
+        b"ST",
+        48,
+        by_op(&st, 4),
+        &[16, 16, 16, 16, 8],
+        &micros,
+    )?)?;
     Ok(())
 }
 
@@ -222,31 +250,53 @@ fn transfers(alloc: Global, instrs: &mut Items<Instr>) -> Result<(), NoMemory> {
     let bz = [Some(5), None, Some(0), None];
     let micros = [
         (1, read(0, RD)),
-        (1, Act::Const {
-            width: 16,
-            value: 0,
-        }),
+        (
+            1,
+            Act::Const {
+                width: 16,
+                value: 0,
+            },
+        ),
         (2, compute(0, 5, 0, 1)),
-        (2, Act::Slice {
-            high: 0,
-            low: 0,
-            a: Arg::Local(2),
-        }),
-        (2, Act::Branch {
-            cond: Arg::Local(3),
-            target: Arg::Field(3),
-        }),
+        (
+            2,
+            Act::Slice {
+                high: 0,
+                low: 0,
+                a: Arg::Local(2),
+            },
+        ),
+        (
+            2,
+            Act::Branch {
+                cond: Arg::Local(3),
+                target: Arg::Field(3),
+            },
+        ),
     ];
-    instrs.push(instr(alloc, b"BZ", 56, by_op_and_z(&bz, 5), &[16, 16, 16, 1], &micros)?)?;
+    instrs.push(instr(
+        alloc,
+        b"BZ",
+        56,
+        by_op_and_z(&bz, 5),
+        &[16, 16, 16, 1],
+        &micros,
+    )?)?;
     let jal = [Some(6), None, Some(0), None];
     let micros = [
-        (2, Act::Jump {
-            target: Arg::Field(3),
-        }),
-        (3, Act::Zext {
-            width: 16,
-            a: Arg::Link,
-        }),
+        (
+            2,
+            Act::Jump {
+                target: Arg::Field(3),
+            },
+        ),
+        (
+            3,
+            Act::Zext {
+                width: 16,
+                a: Arg::Link,
+            },
+        ),
         (3, write(0)),
     ];
     instrs.push(instr(alloc, b"JAL", 63, by_op_and_z(&jal, 6), &[16], &micros)?)?;
@@ -267,23 +317,24 @@ fn others(alloc: Global, instrs: &mut Items<Instr>) -> Result<(), NoMemory> {
     let jr = [Some(7), None, Some(0), Some(0)];
     let micros = [
         (1, read(0, RD)),
-        (2, Act::Slice {
-            high: 5,
-            low: 0,
-            a: Arg::Local(0),
-        }),
-        (2, Act::Jump {
-            target: Arg::Local(1),
-        }),
+        (
+            2,
+            Act::Slice {
+                high: 5,
+                low: 0,
+                a: Arg::Local(0),
+            },
+        ),
+        (
+            2,
+            Act::Jump {
+                target: Arg::Local(1),
+            },
+        ),
     ];
     instrs.push(instr(alloc, b"JR", 68, by_all(&jr, 2, 7), &[16, 6], &micros)?)?;
     let inp = [Some(8), None, Some(0), Some(0)];
-    let micros = [
-        (2, Act::ReadIn {
-            input: 0,
-        }),
-        (3, write(0)),
-    ];
+    let micros = [(2, Act::ReadIn { input: 0 }), (3, write(0))];
     instrs.push(instr(alloc, b"INP", 73, by_all(&inp, 1, 8), &[16], &micros)?)?;
     Ok(())
 }

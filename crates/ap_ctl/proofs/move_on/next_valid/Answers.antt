@@ -46,6 +46,11 @@ loop-place-preserved c =
       tells = EachFrom-push (λ stage. Tells c.chosen.new.out (next_of design g valid fires stage)) 1 c.loop-place.nets c.in_ok-next.next
           (EachFrom-weaker (λ stage. Tells c.loop-place.out (next_of design g valid fires stage)) (λ stage. Tells c.chosen.new.out (next_of design g valid fires stage)) (λ stage w t. Tells-Builds y.gives.builds t) 1 c.loop-place.nets h.tells) next;
       gives = GivesEach-push from (g.hold.number ∷ (get_or valid place no_wire).number ∷ c.coming-from.result.number ∷ []) c.args.out.now c.loop-place.out c.chosen.new.out c.loop-place.nets c.in_ok-next.next h.gives y.gives
-          (from_these from c.args.out.now c.loop-place.out (g.hold.number ∷ (get_or valid place no_wire).number ∷ c.coming-from.result.number ∷ []) (inl refl, (each_index (λ (w : Wire). Among from w.number) valid place no_wire (next_valid_among g valid fires) inside,
-          (one_has (λ (w : Wire). Among from w.number) (g.goes ∷ g.lives ∷ fires) c.coming-from.result (next_among g valid fires) c.coming-from.ensures.one, tt))));
+          (from_these from c.args.out.now c.loop-place.out (g.hold.number ∷ (get_or valid place no_wire).number ∷ c.coming-from.result.number ∷ []) (
+            inl refl,
+            (
+              each_index (λ (w : Wire). Among from w.number) valid place no_wire (next_valid_among g valid fires) inside,
+              (one_has (λ (w : Wire). Among from w.number) (g.goes ∷ g.lives ∷ fires) c.coming-from.result (next_among g valid fires) c.coming-from.ensures.one, tt),
+            ),
+          ));
     })
