@@ -1,0 +1,15 @@
+pub mod Beside
+pub mod Bits
+pub mod Border
+pub mod Built
+pub mod Chosen
+pub mod Decoded
+pub mod Fields
+pub mod Firing
+pub mod Following
+pub mod Rest
+pub mod Stages
+pub mod Tests
+pub mod ValidBits
+pub mod Whole
+pub mod Within

@@ -1,0 +1,6 @@
+use Rattle.std.proofs.Common.{◌≡◌, ◌+◌, ◌∷◌, ◌++◌, [], ℕ, List, replicate, zero, suc, refl, sym, ap, ◌∙◌, arith}
+use Rattle.ap_ctl.proofs.Beside.{replicate-push}
+use Rattle.ap_ctl.proofs.control.for_each_stage.Goals as goal
+
+pub loop-preserved : goal.loop-preserved
+loop-preserved c = c.in_ok-push.ensures.ok ∙ ap (λ ns. ns ++ c.args.net ∷ []) c.loop.invariant ∙ replicate-push c.loop.counter c.args.net

@@ -1,0 +1,53 @@
+use Rattle.std.proofs.Common.{◌≡◌, ◌<◌, ℕ, ◌-◌, ◌/◌, length, take, drop, ap, sym, ◌∙◌, arith, rules, refl, List, ◌∷◌, []}
+use Rattle.std.specs.List.{AllByRecursion as Each, list_any}
+use Rattle.ap_net.specs.declared.cell.Cell.TheVariants as cell
+use Rattle.ap_net.specs.declared.cell.Wire.{Wire}
+use Rattle.ap_net.specs.Pending.{Among}
+use Rattle.ap_net.specs.Ready.{numbers}
+use Rattle.ap_ctl.specs.Building.{IsBit, is_on}
+use Rattle.ap_ctl.proofs.Beside.{no_wire}
+use Rattle.ap_ctl.proofs.Bits.{IsBit-Tells, Each-drop, Each-take, none_any, on_of, one_any, told, any_halves, joined_any}
+use Rattle.ap_ctl.proofs.Built.{IsBit-Builds, EachBit-Builds, Gives-fewer, Gives-made, Tells-Builds, among_nets, among_some, one_gives, pair_gives}
+use Rattle.ap_ctl.proofs.gate.+any_of.Goals as goal
+
+pub any_of-requires-2 : goal.any_of-requires-2
+any_of-requires-2 t c =
+    let middle = length c.args.nets.now / 2 in
+    let p = c.in_ok-first.ensures.gives.builds in
+    (search rules, (p.fresh, EachBit-Builds p (take (length c.args.nets.now - middle) (drop middle c.args.nets.now)) (Each-take (IsBit c.args.out.now.nets) (length c.args.nets.now - middle) (drop middle c.args.nets.now) (Each-drop (IsBit c.args.out.now.nets) middle c.args.nets.now c.requires.nets))))
+
+pub returns-clause-tells : goal.returns-clause-tells
+returns-clause-tells t c =
+    let middle = length c.args.nets.now / 2 in
+    let y = c.in_ok-any.ensures in
+    let second = Tells-Builds y.gives.builds c.in_ok-second.ensures.tells in
+    let first = Tells-Builds y.gives.builds (Tells-Builds c.in_ok-second.ensures.gives.builds c.in_ok-first.ensures.tells) in
+    told (λ r s. joined_any (on_of first r s) (on_of second r s) ∙ any_halves (is_on r) middle c.args.nets.now) y.tells
+
+pub returns-clause-gives : goal.returns-clause-gives
+returns-clause-gives t c =
+    let nets : List Wire = c.args.nets.now in
+    let middle = length nets / 2 in
+    let P : Wire → Type 0 = λ w. Among (numbers nets) w.number in
+    pair_gives (numbers nets) _ _ c.args.out.now _ _ _ c.in_ok-first.first c.in_ok-second.second c.in_ok-any.any c.requires.fresh
+    c.in_ok-first.ensures.gives (among_some nets (take middle nets) (Each-take P middle nets (among_nets nets)))
+    c.in_ok-second.ensures.gives (among_some nets (take (length nets - middle) (drop middle nets)) (Each-take P (length nets - middle) (drop middle nets) (Each-drop P middle nets (among_nets nets))))
+    c.in_ok-any.ensures.gives
+
+pub returns-then-nets-eq1-clause-tells : goal.returns-then-nets-eq1-clause-tells
+returns-then-nets-eq1-clause-tells t c = one_any c.args.out.now c.args.nets.now no_wire (omega arith) c.requires.nets
+
+pub returns-then-nets-eq1-clause-gives : goal.returns-then-nets-eq1-clause-gives
+returns-then-nets-eq1-clause-gives t c = one_gives c.args.out.now c.args.nets.now no_wire c.requires.fresh (omega arith)
+
+pub either-requires-clause-a : goal.either-requires-clause-a
+either-requires-clause-a t c = IsBit-Builds c.in_ok-second.ensures.gives.builds c.in_ok-first.first (IsBit-Tells c.in_ok-first.ensures.tells)
+
+pub either-requires-clause-b : goal.either-requires-clause-b
+either-requires-clause-b t c = IsBit-Tells c.in_ok-second.ensures.tells
+
+pub returns-then-is_empty-clause-gives : goal.returns-then-is_empty-clause-gives
+returns-then-is_empty-clause-gives t c =
+    let y = c.in_ok-off.ensures in
+    Gives-fewer (numbers c.args.nets.now) [] c.args.out.now c.make.new.self c.in_ok-off.off c.requires.fresh
+    (Gives-made c.args.out.now c.make.new.self 1 (cell.Const 0) c.in_ok-off.off y.ok y.wire c.requires.fresh y.makes y.reads y.net.0 tt refl) tt

@@ -1,0 +1,14 @@
+use Rattle.std.proofs.Common.{refl, sym, ◌∙◌}
+use Rattle.ap_net.specs.declared.cell.Cell.TheVariants as cell
+use Rattle.ap_net.specs.declared.cell.TwoOp.TheVariants as op
+use Rattle.ap_ctl.proofs.Bits.{and_tells}
+use Rattle.ap_ctl.proofs.Built.{Gives-made}
+use Rattle.ap_ctl.proofs.gate.both.Goals as goal
+
+pub returns-clause-tells : goal.returns-clause-tells
+returns-clause-tells c = and_tells c.in_ok-both.ensures.makes c.args.a c.args.b c.in_ok-both.both c.requires.a c.requires.b c.in_ok-both.ensures.carries
+
+pub returns-clause-gives : goal.returns-clause-gives
+returns-clause-gives c =
+    let y = c.in_ok-both.ensures in
+    Gives-made c.args.out.now c.make.new.self 1 (cell.Two op.And c.args.a c.args.b) c.in_ok-both.both y.ok y.wire c.requires.fresh y.makes y.reads y.net.0 refl refl

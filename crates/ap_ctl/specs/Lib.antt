@@ -1,0 +1,9 @@
+pub mod Border
+pub mod Building
+pub mod Decoding
+pub mod Given
+pub mod Lists
+pub mod Made
+pub mod Meaning
+pub mod Moves
+pub mod Nets
