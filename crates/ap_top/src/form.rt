@@ -8,6 +8,7 @@ ghost use Rattle.ap_top.specs.declared.form.ReadFault.TheVariants as fault;
 use crate::addition::find_addition;
 use crate::numbers::Numbers;
 use crate::pattern;
+use ap_check::resolve;
 use ap_desc::{DescFault, Refusal};
 use ap_read::read;
 use ap_text::{Line, lines};
@@ -84,14 +85,15 @@ impl From<Judged> for ReadFault {
 
 /// The form of a description.
 ///
-/// Where the text has a fault of form, it is `Refused` for the least one. Any other text that isn't of the first form is
-/// `NotBuilt`, at the first line whose tokens aren't those due, or at line 0 where the text ends before the fifteen lines.
-/// The line `unit` isn't due where the shelf has no operation `add` of a kind `alu` for its width.
+/// Where the text has a fault, of form or of meaning, it is `Refused` for the least one. Any other text that isn't of the first
+/// form is `NotBuilt`, at the first line whose tokens aren't those due, or at line 0 where the text ends before the fifteen
+/// lines. The line `unit` isn't due where a unit of the shelf's kind `alu` takes more than one cycle.
 pub fn judge(alloc: Global, text: &[u8], shelf: &Shelf) -> Result<Form, ReadFault>
     ensures form { IfOk result (IsFormDescription (cards_of card shelf.now) text.now) }
     ensures refused { IfErr result (HasReadFault (cards_of card shelf.now) text.now) }
 {
-    let _ = read(alloc, text)?;
+    let description = read(alloc, text)?;
+    let _ = resolve(alloc, &description, shelf)?;
     let list = lines(alloc, text)?;
     let form = read_form(text, list.as_slice(), shelf)?;
     Ok(form)

@@ -4,4 +4,4 @@ use Rattle.ap_desc.specs.declared.fault.Fault.TheVariants.{TooLong}
 use Rattle.ap_top.proofs.form.judge.Goals as goal
 
 pub lines-requires : goal.lines-requires
-lines-requires g c = ⊎_elim (λ long. absurd (c.in_ok-read.ensures.faultless TooLong 0 (refl, long))) (λ short. omega arith) (cases_lt 1048576 (length c.args.text.now))
+lines-requires g c = ⊎_elim (λ long. absurd (c.in_ok-description.ensures.faultless TooLong 0 (refl, long))) (λ short. omega arith) (cases_lt 1048576 (length c.args.text.now))
