@@ -1,9 +1,10 @@
 -- The bits that an instr line fixes lie in the code word.
-use Rattle.std.proofs.Common.{◌≡◌, ℕ, suc, ◌+◌, ◌-◌, ◌*◌, ◌^◌, ◌<◌, ◌≤◌, nat_le, nat_lt, Bool, true, false, List, [], ◌∷◌, map, min, Option, Some, None, refl, sym, ap, subst, ◌∙◌, arith, pow_mono, pow_pos, leb-true, ltb-true, mul-le-mul_right, sum_by}
+use Rattle.std.proofs.Common.{◌≡◌, ℕ, suc, ◌+◌, ◌-◌, ◌*◌, ◌%◌, ◌^◌, ◌<◌, ◌≤◌, nat_le, nat_lt, Bool, true, false, List, [], ◌∷◌, map, min, Option, Some, None, refl, sym, ap, subst, ◌∙◌, arith, pow_mono, pow_pos, leb-true, ltb-true, mul-le-mul_right, sum_by}
 use Rattle.std.specs.Prelude.{zip, if◌then◌else◌}
 use Rattle.std.proofs.lemmas.Bool.{and_parts}
 use Rattle.std.proofs.lemmas.List.Sums.{sum_by-cons}
 use Rattle.std.proofs.lemmas.Nat.{pow-add}
+use Rattle.std.proofs.Math.Nat.{mod-eq_of_lt}
 use Rattle.ap_desc.specs.declared.design.Field.{Field}
 use Rattle.ap_desc.specs.declared.statement.FieldNumber.{FieldNumber}
 use Rattle.ap_desc.specs.Designs.{ArePlaced, is_counted, mask_bits, value_bits}
@@ -18,6 +19,30 @@ block_below : (k q m p : ℕ) → k < p → m < q → k * q + m < p * q
 block_below k q m p below low =
     let up : suc k * q ≤ p * q = mul-le-mul_right q (omega arith) in
     omega arith
+
+-- a value of a field's bits at its place in a word of at most 64 bits
+shifted_low : (word low width k : ℕ) → word ≤ 64 → low + width ≤ word → k < 2 ^ width → k * 2 ^ low < 18446744073709551616
+shifted_low word low width k small fits below =
+    let up : 2 ^ (width + low) ≤ 2 ^ 64 = pow_mono (omega arith) in
+    let whole : 2 ^ (width + low) ≡ 2 ^ width * 2 ^ low = pow-add 2 width low in
+    let block : k * 2 ^ low + 0 < 2 ^ width * 2 ^ low = block_below k (2 ^ low) 0 (2 ^ width) below (pow_pos low) in
+    omega arith
+
+pub mask_shifted : (word : ℕ) (field : Field) (value ones : ℕ) → word ≤ 64 → is_counted word field value ≡ true → ones ≡ 2 ^ field.width - 1 → ones * 2 ^ field.low % 18446744073709551616 ≡ mask_bits word (field, Some value)
+mask_shifted word field value ones small counted e =
+    let parts = and_parts (nat_le (field.low + field.width) word) (nat_lt value (2 ^ field.width)) counted in
+    let fits : field.low + field.width ≤ word = leb-true (field.low + field.width) word parts.0 in
+    let positive : 0 < 2 ^ field.width = pow_pos field.width in
+    let low : (2 ^ field.width - 1) * 2 ^ field.low < 18446744073709551616 = shifted_low word field.low field.width (2 ^ field.width - 1) small fits (omega arith) in
+    ap (λ x. x * 2 ^ field.low % 18446744073709551616) e
+    ∙ subst (λ (b : Bool). (2 ^ field.width - 1) * 2 ^ field.low % 18446744073709551616 ≡ (if b then (2 ^ field.width - 1) * 2 ^ field.low else 0)) (sym counted) (mod-eq_of_lt low)
+
+pub value_shifted : (word : ℕ) (field : Field) (value : ℕ) → word ≤ 64 → is_counted word field value ≡ true → value * 2 ^ field.low % 18446744073709551616 ≡ value_bits word (field, Some value)
+value_shifted word field value small counted =
+    let parts = and_parts (nat_le (field.low + field.width) word) (nat_lt value (2 ^ field.width)) counted in
+    let fits : field.low + field.width ≤ word = leb-true (field.low + field.width) word parts.0 in
+    let low : value * 2 ^ field.low < 18446744073709551616 = shifted_low word field.low field.width value small fits (ltb-true value (2 ^ field.width) parts.1) in
+    subst (λ (b : Bool). value * 2 ^ field.low % 18446744073709551616 ≡ (if b then value * 2 ^ field.low else 0)) (sym counted) (mod-eq_of_lt low)
 
 -- a number of the fields so far and of the word
 record LiesLow (word width n : ℕ) : Type 0 where

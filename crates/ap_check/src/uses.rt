@@ -150,25 +150,30 @@ impl Declared {
     }
 
     /// Whether a field that is given a value isn't one of the format at this place.
-    fn has_unknown(&self, format: u32, fixed: &[FieldNumber]) -> bool
+    fn has_unknown(&self, alloc: Global, format: u32, fixed: &[FieldNumber]) -> bool
         ensures { result ≡ list_any (λ (f : DeclaredFieldNumber).
             is_missing f.field (names_at self.now.fields format)) fixed.now }
     {
         match self.fields.as_slice().get(format as usize) {
             Some(names) => has_missing(names, fixed),
-            None => fixed.iter().any(|_| true),
+            None => has_missing(&Names::new(alloc), fixed),
         }
     }
 
     /// The fields that an instruction fixes are fields of the format at this place.
-    fn known_fields(&self, format: u32, fixed: &[FieldNumber]) -> Result<(), Fault>
+    fn known_fields(
+        &self,
+        alloc: Global,
+        format: u32,
+        fixed: &[FieldNumber],
+    ) -> Result<(), Fault>
         ensures known { OnOk result (list_any (λ (f : DeclaredFieldNumber).
             is_missing f.field (names_at self.now.fields format)) fixed.now ≡ false) }
         ensures missing { IfErr result (λ _. list_any (λ (f : DeclaredFieldNumber).
             is_missing f.field (names_at self.now.fields format)) fixed.now ≡ true) }
         ensures kind { IfErr result (λ kind. kind ≡ Fault.Unknown) }
     {
-        if self.has_unknown(format, fixed) {
+        if self.has_unknown(alloc, format, fixed) {
             return Err(Fault::Unknown);
         }
         Ok(())
@@ -186,7 +191,7 @@ impl Declared {
         ensures { IsUse [] self.now (s.Instr name.now format.now fixed.now) result }
     {
         let place = place_in(&self.formats, format)?;
-        self.known_fields(place, fixed)?;
+        self.known_fields(alloc, place, fixed)?;
         if self.instrs.contains(name.as_str()) {
             return Err(Stop::Fault(Fault::Twice));
         }
