@@ -8,7 +8,7 @@ fn accepted_lines() -> [(u32, &'static str); 19] {
     [
         (0, ""),
         (1, "stages 8"),
-        (4, "transfer 3 8"),
+        (4, "transfer 2 2"),
         (5, "reg R 16 0"),
         (6, "reg ONE 1 1"),
         (17, "  1 a = F.r1 rs"),
