@@ -4,7 +4,7 @@ use Rattle.std.specs.Prelude.{◌==◌}
 use Rattle.std.specs.List.{list_any}
 use Rattle.std.proofs.lemmas.Bool.{and_parts, ltb-false, not_from_false, or_parts}
 use Rattle.std.proofs.lemmas.List.Sums.{sum_by-cons}
-use Rattle.ap_desc.proofs.InOrder.{due_at}
+use Rattle.ap_desc.proofs.InOrder.{due_at, said_by}
 use Rattle.ap_desc.specs.Descriptions.{IsDescription}
 use Rattle.ap_desc.specs.Designs.{is_field_width}
 use Rattle.ap_desc.specs.Limits.{max_fields, max_formats}
@@ -24,7 +24,7 @@ few_here earlier _ e = tt
 
 -- every statement of a description
 pub has_few_fields : (statements before : List Numbered) (n : Numbered) (after : List Numbered) → IsDescription statements → statements ≡ before ++ n ∷ after → HasFewFields n.statement
-has_few_fields statements before n after described split = let due = due_at statements before n after described split in few_here _ n.statement due.few
+has_few_fields statements before n after described split = let due = due_at statements before n after described split in few_here (said_by before) n.statement due.few
 
 -- fields within a word of at most 64 bits
 within_word : (word width : ℕ) → not (is_field_width word width) ≡ false → width ≤ word

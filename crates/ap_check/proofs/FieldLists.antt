@@ -5,6 +5,7 @@ use Rattle.std.proofs.lemmas.List.Sums.{sum_by-cons, sum_by-drop_more, sum_by_mo
 use Rattle.ap_desc.specs.declared.design.Field.{Field}
 use Rattle.ap_desc.specs.declared.statement.FieldNumber.{FieldNumber}
 use Rattle.ap_desc.specs.Declarations.{fields_said}
+use Rattle.ap_check.specs.FixedBits.{field_bits}
 
 pub ruleset field_sums = (sum_by-drop_more, sum_by_more)
 
@@ -14,6 +15,12 @@ widths_said [] = refl
 widths_said (f ∷ fields) =
     sum_by-cons (λ (x : Field). x.width) (record { name = f.field; width = f.number; low = sum_by (λ (x : Field). x.width) (fields_said fields) }) (fields_said fields)
     ∙ ap (λ n. f.number + n) (widths_said fields) ∙ sym (sum_by-cons (λ (x : FieldNumber). x.number) f fields)
+
+-- the widths of the fields from one on
+pub bits_dropped : (fields : List FieldNumber) (i : ℕ) (x : FieldNumber) → i < length fields → x ≡ get_or fields i x → field_bits (drop i fields) ≡ x.number + field_bits (drop (i + 1) fields)
+bits_dropped fields i x lt at =
+    let rest : drop i fields ≡ x ∷ drop (i + 1) fields = drop-cons fields i x lt ∙ ap (λ y. y ∷ drop (suc i) fields) (sym at) ∙ ap (λ n. x ∷ drop n fields) (sym (add-one i)) in
+    ap field_bits rest ∙ sum_by-cons (λ (f : FieldNumber). f.number) x (drop (i + 1) fields)
 
 -- one more field is placed
 pub placed_more : (fields : List FieldNumber) (i : ℕ) (x : FieldNumber) (placed : List Field) (low : ℕ) → i < length fields → x ≡ get_or fields i x

@@ -23,7 +23,8 @@ block_below k q m p below low =
 -- a value of a field's bits at its place in a word of at most 64 bits
 shifted_low : (word low width k : ℕ) → word ≤ 64 → low + width ≤ word → k < 2 ^ width → k * 2 ^ low < 18446744073709551616
 shifted_low word low width k small fits below =
-    let up : 2 ^ (width + low) ≤ 2 ^ 64 = pow_mono (omega arith) in
+    let within : width + low ≤ 64 = omega arith in
+    let up : 2 ^ (width + low) ≤ 2 ^ 64 = pow_mono within in
     let whole : 2 ^ (width + low) ≡ 2 ^ width * 2 ^ low = pow-add 2 width low in
     let block : k * 2 ^ low + 0 < 2 ^ width * 2 ^ low = block_below k (2 ^ low) 0 (2 ^ width) below (pow_pos low) in
     omega arith

@@ -199,3 +199,9 @@ named_all test name_of (y ∷ xs) name x all e = go (bytes_eq name (name_of y)) 
   go : (b : Bool) → bytes_eq name (name_of y) ≡ b → (named name_of xs name ≡ Some x → test x ≡ true) → test x ≡ true
   go true same ih = let at : Some y ≡ Some x = rw same at e in let here : y ≡ x = cc in subst (λ z. test z ≡ true) here (and_parts (test y) (list_all test xs) all).0
   go false other ih = ih (rw other at e)
+
+-- the element at a place
+pub got_some : {X : Type 0} (xs : List X) (i : ℕ) (x : X) → i < length xs → x ≡ get_or xs i x → slice_get xs i ≡ Some x
+got_some [] i x lt at = absurd (omega arith)
+got_some (y ∷ xs) zero x lt at = ap Some (sym at)
+got_some (y ∷ xs) (suc i) x lt at = got_some xs i x (omega arith) at

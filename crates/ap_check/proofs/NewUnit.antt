@@ -1,14 +1,23 @@
 -- What a unit uses, by the kind that is found on the shelf.
-use Rattle.std.proofs.Common.{◌≡◌, ℕ, ◌+◌, Bool, true, false, not, List, [], Option, Some, None, refl, sym, ap, ◌∙◌, subst, arith}
+use Rattle.std.proofs.Common.{◌≡◌, ℕ, ◌+◌, ◌++◌, ◌∷◌, Bool, true, false, not, List, [], Ok, Err, Option, Some, None, refl, sym, ap, ◌∙◌, subst, arith}
 use Rattle.std.specs.List.{position_from}
+use Rattle.std.specs.Option.{option_map_or}
+use Rattle.std.specs.Prelude.{Result}
 use Rattle.std.specs.Str.{bytes_eq}
+use Rattle.ap_bits.specs.Cards.{allows, latency_at}
 use Rattle.ap_bits.specs.declared.card.Card.{Card}
+use Rattle.ap_desc.specs.Designs.{is_width}
+use Rattle.ap_desc.specs.declared.design.Unit.{Unit as Resource}
+use Rattle.ap_desc.specs.declared.fault.Fault.{Fault}
 use Rattle.ap_desc.specs.declared.fault.Fault.TheVariants as f
 use Rattle.ap_desc.specs.declared.statement.Statement.TheVariants as s
-use Rattle.ap_desc.specs.Parts.{kind_names, place_of}
+use Rattle.ap_desc.specs.Parts.{card_named, kind_names, place_of}
 use Rattle.ap_desc.specs.Reserved.{is_among}
 use Rattle.ap_check.specs.Tables.{is_part, name_fault}
-use Rattle.ap_check.specs.Uses.{use_of}
+use Rattle.ap_check.specs.Drafts.{IsSaid, IsUnitSaid, first_width_fault}
+use Rattle.ap_check.specs.Uses.{IsStoppedBy, use_of}
+use Rattle.ap_check.specs.declared.draft.Draft.{Draft}
+use Rattle.ap_check.specs.declared.stop.Stop.{Stop}
 use Rattle.ap_check.specs.declared.declared.Declared.{Declared}
 use Rattle.ap_check.specs.declared.uses.Use.{Use}
 use Rattle.ap_check.specs.declared.uses.Use.TheVariants as u
@@ -27,3 +36,23 @@ pub unit_missing : (cards : List Card) (d : Declared) (name kind text : List ℕ
 unit_missing cards d name kind text same found new =
     let gone : is_among kind (kind_names cards) ≡ false = subst (λ t. is_among t (kind_names cards) ≡ false) same (no_kind_from text 0 cards (sym found)) in
     no_kind_first false (is_part d name) (not (is_among kind (kind_names cards))) false refl new (not_broken (is_among kind (kind_names cards)) gone)
+
+-- a unit of the kind that is found is the unit that the statement says
+pub unit_said_so : (cards : List Card) (card : Card) (old : Draft) (place : ℕ) (name kind : List ℕ) (width : ℕ) (new : Draft) (result : Result (Unit {0}) Stop)
+    → card_named cards kind ≡ Some card → place ≡ place_of (kind_names cards) kind → IsUnitSaid card old place name width new result → IsSaid cards 0 old (s.Unit name kind width) new result
+unit_said_so cards card old place name kind width new result found at h = by result h where
+  fault : Option Card → Option Fault
+  fault o = first_width_fault (not (is_width width)) false false false false false (option_map_or (λ (c : Card). not (allows c.widths width)) o false)
+
+  unit : ℕ → Option Card → Resource
+  unit p o = record { name = name; kind = p; width = width; latency = option_map_or (λ (c : Card). latency_at c width) o 0 }
+
+  with_unit : Resource → Draft
+  with_unit u = record old { design = record old.design { units = old.design.units ++ u ∷ [] } }
+
+  same : fault (card_named cards kind) ≡ fault (Some card)
+  same = ap fault found
+
+  by : (r : Result (Unit {0}) Stop) → IsUnitSaid card old place name width new r → IsSaid cards 0 old (s.Unit name kind width) new r
+  by (Ok done) (right, made) = (same ∙ right, made ∙ ap (λ p. with_unit (unit p (Some card))) at ∙ ap (λ o. with_unit (unit (place_of (kind_names cards) kind) o)) (sym found))
+  by (Err why) stopped = subst (λ (o : Option Fault). IsStoppedBy o why) (sym same) stopped

@@ -125,7 +125,7 @@ impl Declared {
             return Err(Stop::Fault(Fault::Twice));
         }
         match shelf.find(kind.as_str()) {
-            Some(_) => Ok(Use::Nothing),
+            Some(_place) => Ok(Use::Nothing),
             None => Err(Stop::Fault(Fault::NoKind)),
         }
     }

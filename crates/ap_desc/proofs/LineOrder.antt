@@ -25,7 +25,7 @@ pub rise_left : (low : ℕ) (xs ys : List ℕ) → Rise low (xs ++ ys) → Rise 
 rise_left low [] ys r = tt
 rise_left low (x ∷ xs) ys r = (r.0, rise_left x xs ys r.1)
 
-rise_above : (low : ℕ) (xs : List ℕ) (i n : ℕ) → Rise low xs → slice_get xs i ≡ Some n → low < n
+pub rise_above : (low : ℕ) (xs : List ℕ) (i n : ℕ) → Rise low xs → slice_get xs i ≡ Some n → low < n
 rise_above low [] i n r at = absurd cc
 rise_above low (x ∷ xs) zero n r at = subst (λ m. low < m) (same_Some x n at) r.0
 rise_above low (x ∷ xs) (suc i) n r at = let below : low < x = r.0 in let above : x < n = rise_above x xs i n r.1 at in omega arith
@@ -49,7 +49,7 @@ placed_order : {X : Type 0} (line_of : X → ℕ) (low : ℕ) (xs : List X) (i j
 placed_order line_of low xs i j x y r at again =
     lower_earlier low (map line_of xs) i j (line_of x) (line_of y) r (slice_get-map line_of xs i ∙ ap (option_map line_of) at) (slice_get-map line_of xs j ∙ ap (option_map line_of) again)
 
-abbrev instr_lines : Instr → List ℕ
+abbrev pub instr_lines : Instr → List ℕ
 instr_lines i = i.line ∷ map (λ (m : Micro). m.line) i.micros
 
 rise_within : (low : ℕ) (xs ys zs : List ℕ) → Rise low (xs ++ ys) → ((above : ℕ) → Rise above ys → Rise above zs) → Rise low (xs ++ zs)

@@ -4,30 +4,13 @@ use Rattle.std.specs.Prelude.{◌⊎◌, slice_get, option_map}
 use Rattle.std.proofs.lemmas.Bool.{cases_order}
 use Rattle.std.proofs.lemmas.Option.{same_Some, slice_get-map}
 use Rattle.ap_desc.proofs.DesignLaws.{own_in_order}
+use Rattle.ap_desc.proofs.LineOrder.{instr_lines, rise_above, rise_left, rise_right, sound_rise}
 use Rattle.ap_desc.specs.Designs.{Rise}
 use Rattle.ap_desc.specs.Sound.{IsSound}
 use Rattle.ap_desc.specs.declared.design.Design.{Design}
-use Rattle.ap_desc.specs.declared.design.Format.{Format}
 use Rattle.ap_desc.specs.declared.design.Instr.{Instr}
 use Rattle.ap_desc.specs.declared.design.Micro.{Micro}
 use Rattle.ap_ports.proofs.Members.{contains_at}
-
-rise_weaker : (low above : ℕ) (xs : List ℕ) → low ≤ above → Rise above xs → Rise low xs
-rise_weaker low above [] le r = tt
-rise_weaker low above (x ∷ xs) le r = (let below : above < x = r.0 in omega arith, r.1)
-
-rise_right : (low : ℕ) (xs ys : List ℕ) → Rise low (xs ++ ys) → Rise low ys
-rise_right low [] ys r = r
-rise_right low (x ∷ xs) ys r = rise_weaker low x ys (let below : low < x = r.0 in omega arith) (rise_right x xs ys r.1)
-
-rise_left : (low : ℕ) (xs ys : List ℕ) → Rise low (xs ++ ys) → Rise low xs
-rise_left low [] ys r = tt
-rise_left low (x ∷ xs) ys r = (r.0, rise_left x xs ys r.1)
-
-rise_above : (low : ℕ) (xs : List ℕ) (i n : ℕ) → Rise low xs → slice_get xs i ≡ Some n → low < n
-rise_above low [] i n r at = absurd cc
-rise_above low (x ∷ xs) zero n r at = subst (λ m. low < m) (same_Some x n at) r.0
-rise_above low (x ∷ xs) (suc i) n r at = let below : low < x = r.0 in let above : x < n = rise_above x xs i n r.1 at in omega arith
 
 -- what comes later is above a number
 rise_after : (low : ℕ) (xs ys : List ℕ) (i n : ℕ) → Rise low (xs ++ ys) → slice_get xs i ≡ Some n → Rise n ys
@@ -37,9 +20,6 @@ rise_after low (x ∷ xs) ys (suc i) n r at = rise_after x xs ys i n r.1 at
 
 abbrev own_lines : Instr → List ℕ
 own_lines i = map (λ (m : Micro). m.line) i.micros
-
-abbrev instr_lines : Instr → List ℕ
-instr_lines i = i.line ∷ own_lines i
 
 line_at : (i : Instr) (place : ℕ) (m : Micro) → slice_get i.micros place ≡ Some m → slice_get (own_lines i) place ≡ Some m.line
 line_at i place m at = slice_get-map (λ (x : Micro). x.line) i.micros place ∙ ap (option_map (λ (x : Micro). x.line)) at
@@ -69,11 +49,6 @@ lines_apart low (x ∷ xs) r zero (suc k) lt one other at again i place m n ther
 lines_apart low (x ∷ xs) r (suc j) (suc k) lt one other at again i place m n there later =
     let less : j < k = omega arith in
     lines_apart x.line xs (rise_right x.line (own_lines x) (flat_map instr_lines xs) r.1) j k less one other at again i place m n there later
-
-sound_rise : (design : Design) → IsSound design → Rise 0 (flat_map instr_lines design.instrs)
-sound_rise design sound =
-    let whole : Rise 0 ((design.transfer_line ∷ map (λ (f : Format). f.line) design.formats) ++ flat_map instr_lines design.instrs) = sound.lines in
-    rise_right 0 (design.transfer_line ∷ map (λ (f : Format). f.line) design.formats) (flat_map instr_lines design.instrs) whole
 
 -- a line of an earlier instruction has a lower number
 pub earlier_instr : (design : Design) → IsSound design → (j k : ℕ) → j < k → (one other : Instr) → slice_get design.instrs j ≡ Some one → slice_get design.instrs k ≡ Some other
