@@ -1,13 +1,15 @@
-ghost use Rattle.std.specs.Prelude.{◌≡◌, IfErr, IfOk};
+ghost use Rattle.std.specs.Prelude.{◌≡◌, IfErr, IfOk, OnOk};
 ghost use Rattle.ap_unit.specs.Shelves.{cards_of};
 ghost use Rattle.ap_desc.specs.Clean.{FitsCards};
 ghost use Rattle.ap_desc.specs.DesignOf.{design_of};
-ghost use Rattle.ap_desc.specs.Meaning.{IsMeaningful};
-ghost use Rattle.ap_check.specs.Resolved.{IsLineFault, IsMeaningFault, IsResolvable};
+ghost use Rattle.ap_desc.specs.Least.{HoldsNowhere};
+ghost use Rattle.ap_desc.specs.Meaning.{IsMeaningful, MeetsPortFault, MeetsWordFault};
+ghost use Rattle.ap_desc.specs.Sound.{IsSound};
+ghost use Rattle.ap_check.specs.Resolved.{IsLineFault, IsMeaningFault, IsPortFault, IsResolvable, IsWordFault};
 
 use crate::environment::Environment;
 use ap_desc::design::Design;
-use ap_desc::laws::{faultless_descriptions_are_sound, least_fault_by_phases};
+use ap_desc::laws::faultless_descriptions_are_sound;
 use ap_desc::{DescFault, Description};
 use ap_unit::{Shelf, UnitKind};
 use std::alloc::Global;
@@ -32,6 +34,33 @@ fn described(
     environment.finish()
 }
 
+/// The design again, if its words have no fault.
+fn judged_words(design: Design) -> Result<Design, DescFault>
+    requires { IsSound design }
+    ensures same { IfOk result (λ judged. judged ≡ design) }
+    ensures right { OnOk result (HoldsNowhere (MeetsWordFault design)) }
+    ensures refused { IfErr result (IsWordFault design) }
+{
+    match ap_enc::judge(&design) {
+        None => Ok(design),
+        Some(refusal) => Err(DescFault::Refused(refusal)),
+    }
+}
+
+/// The design again, if its ports and stages have no fault.
+fn judged_ports(design: Design) -> Result<Design, DescFault>
+    requires { IsSound design }
+    ensures same { IfOk result (λ judged. judged ≡ design) }
+    ensures right { OnOk result (HoldsNowhere (MeetsPortFault design)) }
+    ensures refused { IfErr result (IsPortFault design) }
+{
+    match ap_ports::judge(&design) {
+        Ok(None) => Ok(design),
+        Ok(Some(refusal)) => Err(DescFault::Refused(refusal)),
+        Err(_) => Err(DescFault::NoMemory),
+    }
+}
+
 /// Resolves a description over a shelf: finds what its names stand for, judges it, and makes the design that it means.
 ///
 /// `Refused` comes exactly where the description has a fault of meaning, and names the least one: by its phase, then by its line,
@@ -54,14 +83,9 @@ pub fn resolve(
     ensures refused { IfErr result (IsMeaningFault description.now (cards_of card shelf.now)) }
 {
     faultless_descriptions_are_sound();
-    least_fault_by_phases();
     description.rules();
     let design = described(alloc, description, shelf)?;
-    if let Some(refusal) = ap_enc::judge(&design) {
-        return Err(DescFault::Refused(refusal));
-    }
-    if let Some(refusal) = ap_ports::judge(&design)? {
-        return Err(DescFault::Refused(refusal));
-    }
+    let design = judged_words(design)?;
+    let design = judged_ports(design)?;
     Ok(design)
 }
