@@ -12,9 +12,14 @@ use Rattle.ap_desc.specs.Meaning.{IsAccepted, IsLeastFault, IsLeastMeaningFault,
 use Rattle.ap_desc.specs.Reading.{ReadsAs}
 use Rattle.ap_desc.specs.StatementFaults.{HasStatementFault}
 use Rattle.ap_desc.specs.declared.description.Numbered.{Numbered}
+use Rattle.ap_desc.specs.declared.fault.DescFault.{DescFault}
+use Rattle.ap_desc.specs.declared.fault.DescFault.TheVariants.{Refused, NoMemory}
 use Rattle.ap_desc.specs.declared.fault.Fault.{Fault}
 use Rattle.ap_desc.specs.declared.fault.Fault.TheVariants as f
 use Rattle.ap_desc.specs.declared.fault.Refusal.{Refusal}
+use Rattle.ap_check.specs.Resolved.{IsMeaningFault}
+use Rattle.ap_read.specs.ReadFaults.{IsReadFault}
+use Rattle.ap_top.specs.Form.{IsTextFault}
 
 -- faults of form are of the first phase, and those of lines of a later one
 form_phase : (text : List ℕ) (kind : Fault) (line : ℕ) → HasFormFault text kind line → phase_of kind ≡ 1
@@ -80,3 +85,13 @@ module _ (text : List ℕ) (cards : List Card) where
     pub accepted : IsMeaningful statements cards → IsAccepted text cards
     accepted none kind line (inl h) = whole kind line h
     accepted none kind line (inr (others, again, h)) = none kind line (subst (λ (st : List Numbered). MeetsMeaningFault st cards kind line) (read_once text others statements again reads) h)
+
+    -- a fault of meaning
+    pub meaning_refused : (why : DescFault) → IsMeaningFault statements cards why → IsTextFault text cards why
+    meaning_refused (Refused refusal) fault = meaning_next refusal fault
+    meaning_refused NoMemory fault = tt
+
+  -- and one of form
+  pub form_refused : (why : DescFault) → IsReadFault text why → IsTextFault text cards why
+  form_refused (Refused refusal) fault = form_first refusal fault
+  form_refused NoMemory fault = tt

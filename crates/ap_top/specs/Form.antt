@@ -142,6 +142,11 @@ pub record IsFormDescription (cards : List Card) (text : List ℕ) (form : Form)
   pub first : IsFirstForm text form
   pub unit : HasAddition cards form.width
 
+-- why a text isn't accepted: this is its least fault, or memory ran out
+abbrev pub IsTextFault : List ℕ → List Card → DescFault → Type 0
+IsTextFault text cards (fault.Refused refusal) = IsLeastFault text cards refusal
+IsTextFault text cards fault.NoMemory = Unit {0}
+
 -- the fault is the text's least one; or it has none, and isn't of the form from this line on
 abbrev pub HasJudgedFault : List Card → List ℕ → Judged → Type 0
 HasJudgedFault cards text (judged.Refused refusal) = IsLeastFault text cards refusal

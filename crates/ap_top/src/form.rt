@@ -1,7 +1,8 @@
-ghost use Rattle.std.specs.Prelude.{◌≡◌, IfErr, IfOk, map};
+ghost use Rattle.std.specs.Prelude.{◌≡◌, IfErr, IfOk, OnOk, map};
+ghost use Rattle.ap_desc.specs.Meaning.{IsAccepted};
 ghost use Rattle.ap_text.specs.Spans.{AreLinesWithin, line_in};
 ghost use Rattle.ap_unit.specs.Shelves.{cards_of};
-ghost use Rattle.ap_top.specs.Form.{AreLines, HasAddition, IsFormDescription, IsForm, IsNotBuilt, HasReadFault, first_form, reading_of};
+ghost use Rattle.ap_top.specs.Form.{AreLines, HasAddition, IsFormDescription, IsForm, IsNotBuilt, HasReadFault, IsTextFault, first_form, reading_of};
 ghost use Rattle.ap_top.specs.Found.{IsServed};
 ghost use Rattle.ap_top.specs.declared.form.ReadFault.TheVariants as fault;
 
@@ -83,6 +84,16 @@ impl From<Judged> for ReadFault {
     }
 }
 
+/// Judges a text: `Refused` for its least fault, of form or of meaning.
+fn accept(alloc: Global, text: &[u8], shelf: &Shelf) -> Result<(), DescFault>
+    ensures accepted { OnOk result (IsAccepted text.now (cards_of card shelf.now)) }
+    ensures refused { IfErr result (IsTextFault text.now (cards_of card shelf.now)) }
+{
+    let description = read(alloc, text)?;
+    let _design = resolve(alloc, &description, shelf)?;
+    Ok(())
+}
+
 /// The form of a description.
 ///
 /// Where the text has a fault, of form or of meaning, it is `Refused` for the least one. Any other text that isn't of the first
@@ -92,8 +103,7 @@ pub fn judge(alloc: Global, text: &[u8], shelf: &Shelf) -> Result<Form, ReadFaul
     ensures form { IfOk result (IsFormDescription (cards_of card shelf.now) text.now) }
     ensures refused { IfErr result (HasReadFault (cards_of card shelf.now) text.now) }
 {
-    let description = read(alloc, text)?;
-    let _ = resolve(alloc, &description, shelf)?;
+    accept(alloc, text, shelf)?;
     let list = lines(alloc, text)?;
     let form = read_form(text, list.as_slice(), shelf)?;
     Ok(form)
