@@ -35,15 +35,27 @@ fn changes() -> [(u32, &'static str, Option<(Fault, u32)>); 14] {
         (16, "instr I A op=1 rd=8", Some((Fault::FieldValue, 16))),
         (32, "instr J B op=1", Some((Fault::Overlap, 32))),
         (32, "instr J A op=1 rd=6", None),
-        (26, "  2 z = U.add a i", Some((Fault::TwiceInInstruction, 26))),
+        (
+            26,
+            "  2 z = U.add a i",
+            Some((Fault::TwiceInInstruction, 26)),
+        ),
         (29, "  3 F.w0 rd m", Some((Fault::TwiceInInstruction, 29))),
         (39, "  3 jump imm", Some((Fault::TwoStages, 39))),
-        (39, "  2 a = R\n  2 R <- a\n  2 jump imm", Some((Fault::TwoStages, 40))),
+        (
+            39,
+            "  2 a = R\n  2 R <- a\n  2 jump imm",
+            Some((Fault::TwoStages, 40)),
+        ),
         (33, "  0 a = R", Some((Fault::StageZero, 33))),
         (36, "  1 l = zext 16 link", Some((Fault::StageOrder, 36))),
         (4, "transfer 3 8", Some((Fault::TwoStages, 35))),
         (4, "transfer 2 3", Some((Fault::TooManySlots, 4))),
-        (25, "  2 m = X.mullo a v", Some((Fault::UnstableOperand, 25))),
+        (
+            25,
+            "  2 m = X.mullo a v",
+            Some((Fault::UnstableOperand, 25)),
+        ),
         (19, "  1 q = in P", None),
     ]
 }
@@ -197,7 +209,11 @@ fn fault_after(alloc: Global, instructions: &str) -> Result<Option<(Fault, u32)>
 #[test]
 fn further_instructions_of_the_larger_one(rt: HostRuntime) -> Result<(), Fail> {
     for (instructions, fault) in further_instructions() {
-        assert_eq!(rt; fault_after(rt.alloc(), instructions)?, fault, "{instructions}");
+        assert_eq!(rt;
+            fault_after(rt.alloc(), instructions)?,
+            fault,
+            "{instructions}"
+        );
     }
     Ok(())
 }
@@ -215,7 +231,8 @@ fn operands_of_a_slow_unit(rt: HostRuntime) -> Result<(), Fail> {
     let alloc = rt.alloc();
     for (line, fault) in slow_operands() {
         let text = format!(in alloc;
-            "{}instr L A op=4\n  1 a = F.r0 rs\n{line}\n  2 m = X.mullo a p\n  3 F.w0 rd m\nend\n", base()
+            "{}instr L A op=4\n  1 a = F.r0 rs\n{line}\n  2 m = X.mullo a p\n  3 F.w0 rd m\nend\n",
+            base()
         )?;
         assert_eq!(rt; fault_of(alloc, text.as_str())?, fault, "{line}");
     }

@@ -336,10 +336,16 @@ fn spellings_of_none() -> [([&'static str; 6], &'static str); 10] {
         (["4", "65", "8", "3", "1", "250"], "line 3: W1 Range"),
         (["4", "8", "0", "0", "1", "0"], "line 5: W1 Range"),
         (["4", "8", "65", "3", "1", "250"], "line 5: W1 Range"),
-        (["4", "8", "8", "256", "1", "250"], "line 5: W4 TooWideConstant"),
+        (
+            ["4", "8", "8", "256", "1", "250"],
+            "line 5: W4 TooWideConstant",
+        ),
         (["4", "8", "8", "3", "0", "250"], "line 10: E3 Overlap"),
         (["4", "8", "8", "3", "256", "250"], "line 10: E2 FieldValue"),
-        (["4", "8", "8", "3", "1", "256"], "line 12: W4 TooWideConstant"),
+        (
+            ["4", "8", "8", "3", "1", "256"],
+            "line 12: W4 TooWideConstant",
+        ),
     ]
 }
 
@@ -438,13 +444,6 @@ fn shelves_without_the_unit(rt: HostRuntime) -> Result<(), Fail> {
 fn a_fault_comes_before_what_is_not_built(rt: HostRuntime) -> Result<(), Fail> {
     let alloc = rt.alloc();
     let text = accumulator().replace(alloc, "transfer 1 0", "transfer 1 00")?;
-    assert!(rt;
-        is_refused(
-            alloc,
-            text.as_bytes(),
-            &empty_shelf(alloc)?,
-            NO_UNIT
-        )?
-    );
+    assert!(rt; is_refused(alloc, text.as_bytes(), &empty_shelf(alloc)?, NO_UNIT)?);
     Ok(())
 }
