@@ -74,7 +74,7 @@ begun_whole cards whole line name format fixed small placed =
     let fields : List Field = fields_named whole format in
     ap (λ m. record (Begun line name fixed whole.word (place_of (format_names whole) format) fields) { fixed_mask = m }) (masks_whole whole.word fixed fields small placed)
     ∙ ap (λ v. record (Begun line name fixed whole.word (place_of (format_names whole) format) fields) { fixed_mask = sum_by (mask_bits whole.word) (zip fields (map (fixed_of fixed) fields)); fixed_value = v })
-      (values_whole whole.word fixed fields small placed)
+    (values_whole whole.word fixed fields small placed)
 
 -- the draft that describes statements over all declarations
 pub instr_step : (cards : List Card) (statements before : List Numbered) (line : ℕ) (name format : List ℕ) (fixed : List FieldNumber) (place : ℕ) (old new : Draft) (result : Result (Unit {0}) Stop)
@@ -92,21 +92,23 @@ instr_step cards statements before line name format fixed place old new (Ok done
     let small : all.word ≤ 64 = subst (λ w. w ≤ 64) word knows.narrow in
     let here : place ≡ place_of (format_names all) format = at ∙ ap (λ (d : Design). place_of (format_names d) format) whole in
     let fields : fields_at old place ≡ fields_named all format =
-      ap (λ (d : Design). option_map_or (λ (f : Format). f.fields) (slice_get d.formats place) []) e
-      ∙ ap (λ p. option_map_or (λ (f : Format). f.fields) (slice_get all.formats p) []) here
-      ∙ ap (λ o. option_map_or (λ (f : Format). f.fields) o []) (at_place (λ (f : Format). f.name) all.formats format) in
+    ap (λ (d : Design). option_map_or (λ (f : Format). f.fields) (slice_get d.formats place) []) e
+    ∙ ap (λ p. option_map_or (λ (f : Format). f.fields) (slice_get all.formats p) []) here
+    ∙ ap (λ o. option_map_or (λ (f : Format). f.fields) o []) (at_place (λ (f : Format). f.name) all.formats format) in
     let instr : Begun line name fixed old.design.word place (fields_at old place) ≡ instr_of cards all block =
-      ap (λ w. Begun line name fixed w place (fields_at old place)) word
-      ∙ ap (λ p. Begun line name fixed all.word p (fields_at old place)) here
-      ∙ ap (Begun line name fixed all.word (place_of (format_names all) format)) fields
-      ∙ begun_whole cards all line name format fixed small (found_placed all.formats format (all_placed statements)) in
-    (no_width_fault false false false false false false false refl refl refl refl refl refl refl, record {
-      declares = ap (λ (d : Draft). record d.design { instrs = [] }) h ∙ knows.declares ∙ sym law;
-      split =
-        subst (λ bs. IsSplit cards all bs new.design.instrs new.begun) (sym (blocks_push before n))
-        (subst (λ (d : Draft). IsSplit cards all (block ∷ blocks_of before) d.design.instrs d.begun) (sym h)
-        (instrs_completed cards all (blocks_of before) old.design.instrs old.begun knows.split, instr));
-      narrow = subst (λ (d : Draft). d.design.word ≤ 64) (sym h) knows.narrow;
-    })
+    ap (λ w. Begun line name fixed w place (fields_at old place)) word
+    ∙ ap (λ p. Begun line name fixed all.word p (fields_at old place)) here
+    ∙ ap (Begun line name fixed all.word (place_of (format_names all) format)) fields
+    ∙ begun_whole cards all line name format fixed small (found_placed all.formats format (all_placed statements)) in (
+      no_width_fault false false false false false false false refl refl refl refl refl refl refl,
+      record {
+        declares = ap (λ (d : Draft). record d.design { instrs = [] }) h ∙ knows.declares ∙ sym law;
+        split =
+            subst (λ bs. IsSplit cards all bs new.design.instrs new.begun) (sym (blocks_push before n))
+            (subst (λ (d : Draft). IsSplit cards all (block ∷ blocks_of before) d.design.instrs d.begun) (sym h)
+            (instrs_completed cards all (blocks_of before) old.design.instrs old.begun knows.split, instr));
+        narrow = subst (λ (d : Draft). d.design.word ≤ 64) (sym h) knows.narrow;
+      },
+    )
 instr_step cards statements before line name format fixed place old new (Err why) law whole at knows h =
     subst (λ fault. IsStoppedBy fault why) (sym (no_width_fault false false false false false false false refl refl refl refl refl refl refl)) h

@@ -38,10 +38,10 @@ instr_grown cards design b n a e =
     let lines : List Micro = micros_of cards design fields b.lines in
     let m : Micro = record { line = n.line; stage = stage_of n.statement; act = a } in
     let grown : micros_of cards design fields (b.lines ++ n ∷ []) ≡ lines ++ m ∷ [] =
-      each_after-append (λ earlier x. micro_of cards design fields (local_names earlier) x) [] b.lines n
-      ∙ ap (λ o. lines ++ option_to_list (option_map (λ (x : Act). let y : Micro = record { line = n.line; stage = stage_of n.statement; act = x } in y) o)) e in
+    each_after-append (λ earlier x. micro_of cards design fields (local_names earlier) x) [] b.lines n
+    ∙ ap (λ o. lines ++ option_to_list (option_map (λ (x : Act). let y : Micro = record { line = n.line; stage = stage_of n.statement; act = x } in y) o)) e in
     let widths : widths_of design fields (lines ++ m ∷ []) ≡ widths_of design fields lines ++ option_to_list (local_width design (widths_of design fields lines) fields a) =
-      fold_push (λ ws (x : Micro). ws ++ option_to_list (local_width design ws fields x.act)) [] lines m in
+    fold_push (λ ws (x : Micro). ws ++ option_to_list (local_width design ws fields x.act)) [] lines m in
     ap (λ ms. record (instr_of cards design b) { locals = widths_of design fields ms; micros = ms }) grown
     ∙ ap (λ ws. record (instr_of cards design b) { locals = ws; micros = lines ++ m ∷ [] }) widths
 

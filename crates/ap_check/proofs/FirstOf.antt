@@ -30,31 +30,64 @@ Below test n kind = number_of kind < n → test kind ≡ false
 
 pub first_of_names : (test : Fault → Bool) (u t k o : Bool) → test f.Unknown ≡ u → test f.Twice ≡ t → test f.NoKind ≡ k → test f.NoOperation ≡ o → IsFaultOf test 2 (first_name_fault u t k o)
 unfolding first_name_fault
-first_of_names test true t k o eu et ek eo = record { phase = refl; holds = eu;
-  first = of_names (Below test 1) (λ low. absurd (omega arith)) (λ low. absurd (omega arith)) (λ low. absurd (omega arith)) (λ low. absurd (omega arith)) }
-first_of_names test false true k o eu et ek eo = record { phase = refl; holds = et;
-  first = of_names (Below test 2) (λ low. eu) (λ low. absurd (omega arith)) (λ low. absurd (omega arith)) (λ low. absurd (omega arith)) }
-first_of_names test false false true o eu et ek eo = record { phase = refl; holds = ek;
-  first = of_names (Below test 3) (λ low. eu) (λ low. et) (λ low. absurd (omega arith)) (λ low. absurd (omega arith)) }
-first_of_names test false false false true eu et ek eo = record { phase = refl; holds = eo;
-  first = of_names (Below test 4) (λ low. eu) (λ low. et) (λ low. ek) (λ low. absurd (omega arith)) }
+first_of_names test true t k o eu et ek eo = record {
+  phase = refl;
+  holds = eu;
+  first = of_names (Below test 1) (λ low. absurd (omega arith)) (λ low. absurd (omega arith)) (λ low. absurd (omega arith)) (λ low. absurd (omega arith));
+}
+first_of_names test false true k o eu et ek eo = record {
+  phase = refl;
+  holds = et;
+  first = of_names (Below test 2) (λ low. eu) (λ low. absurd (omega arith)) (λ low. absurd (omega arith)) (λ low. absurd (omega arith));
+}
+first_of_names test false false true o eu et ek eo = record {
+  phase = refl;
+  holds = ek;
+  first = of_names (Below test 3) (λ low. eu) (λ low. et) (λ low. absurd (omega arith)) (λ low. absurd (omega arith));
+}
+first_of_names test false false false true eu et ek eo = record {
+  phase = refl;
+  holds = eo;
+  first = of_names (Below test 4) (λ low. eu) (λ low. et) (λ low. ek) (λ low. absurd (omega arith));
+}
 first_of_names test false false false false eu et ek eo = of_names (λ kind. test kind ≡ false) eu et ek eo
 
 pub first_of_widths : (test : Fault → Bool) (r d s w t g k : Bool) → test f.Range ≡ r → test f.Differs ≡ d → test f.Slice ≡ s → test f.TooWideConstant ≡ w → test f.NotOneBit ≡ t → test f.Target ≡ g → test f.KindRefuses ≡ k
     → IsFaultOf test 3 (first_width_fault r d s w t g k)
 unfolding first_width_fault
-first_of_widths test true d s w t g k er ed es ew et eg ek = record { phase = refl; holds = er;
-  first = of_widths (Below test 1) (λ low. absurd (omega arith)) (λ low. absurd (omega arith)) (λ low. absurd (omega arith)) (λ low. absurd (omega arith)) (λ low. absurd (omega arith)) (λ low. absurd (omega arith)) (λ low. absurd (omega arith)) }
-first_of_widths test false true s w t g k er ed es ew et eg ek = record { phase = refl; holds = ed;
-  first = of_widths (Below test 2) (λ low. er) (λ low. absurd (omega arith)) (λ low. absurd (omega arith)) (λ low. absurd (omega arith)) (λ low. absurd (omega arith)) (λ low. absurd (omega arith)) (λ low. absurd (omega arith)) }
-first_of_widths test false false true w t g k er ed es ew et eg ek = record { phase = refl; holds = es;
-  first = of_widths (Below test 3) (λ low. er) (λ low. ed) (λ low. absurd (omega arith)) (λ low. absurd (omega arith)) (λ low. absurd (omega arith)) (λ low. absurd (omega arith)) (λ low. absurd (omega arith)) }
-first_of_widths test false false false true t g k er ed es ew et eg ek = record { phase = refl; holds = ew;
-  first = of_widths (Below test 4) (λ low. er) (λ low. ed) (λ low. es) (λ low. absurd (omega arith)) (λ low. absurd (omega arith)) (λ low. absurd (omega arith)) (λ low. absurd (omega arith)) }
-first_of_widths test false false false false true g k er ed es ew et eg ek = record { phase = refl; holds = et;
-  first = of_widths (Below test 5) (λ low. er) (λ low. ed) (λ low. es) (λ low. ew) (λ low. absurd (omega arith)) (λ low. absurd (omega arith)) (λ low. absurd (omega arith)) }
-first_of_widths test false false false false false true k er ed es ew et eg ek = record { phase = refl; holds = eg;
-  first = of_widths (Below test 6) (λ low. er) (λ low. ed) (λ low. es) (λ low. ew) (λ low. et) (λ low. absurd (omega arith)) (λ low. absurd (omega arith)) }
-first_of_widths test false false false false false false true er ed es ew et eg ek = record { phase = refl; holds = ek;
-  first = of_widths (Below test 7) (λ low. er) (λ low. ed) (λ low. es) (λ low. ew) (λ low. et) (λ low. eg) (λ low. absurd (omega arith)) }
+first_of_widths test true d s w t g k er ed es ew et eg ek = record {
+  phase = refl;
+  holds = er;
+  first = of_widths (Below test 1) (λ low. absurd (omega arith)) (λ low. absurd (omega arith)) (λ low. absurd (omega arith)) (λ low. absurd (omega arith)) (λ low. absurd (omega arith)) (λ low. absurd (omega arith)) (λ low. absurd (omega arith));
+}
+first_of_widths test false true s w t g k er ed es ew et eg ek = record {
+  phase = refl;
+  holds = ed;
+  first = of_widths (Below test 2) (λ low. er) (λ low. absurd (omega arith)) (λ low. absurd (omega arith)) (λ low. absurd (omega arith)) (λ low. absurd (omega arith)) (λ low. absurd (omega arith)) (λ low. absurd (omega arith));
+}
+first_of_widths test false false true w t g k er ed es ew et eg ek = record {
+  phase = refl;
+  holds = es;
+  first = of_widths (Below test 3) (λ low. er) (λ low. ed) (λ low. absurd (omega arith)) (λ low. absurd (omega arith)) (λ low. absurd (omega arith)) (λ low. absurd (omega arith)) (λ low. absurd (omega arith));
+}
+first_of_widths test false false false true t g k er ed es ew et eg ek = record {
+  phase = refl;
+  holds = ew;
+  first = of_widths (Below test 4) (λ low. er) (λ low. ed) (λ low. es) (λ low. absurd (omega arith)) (λ low. absurd (omega arith)) (λ low. absurd (omega arith)) (λ low. absurd (omega arith));
+}
+first_of_widths test false false false false true g k er ed es ew et eg ek = record {
+  phase = refl;
+  holds = et;
+  first = of_widths (Below test 5) (λ low. er) (λ low. ed) (λ low. es) (λ low. ew) (λ low. absurd (omega arith)) (λ low. absurd (omega arith)) (λ low. absurd (omega arith));
+}
+first_of_widths test false false false false false true k er ed es ew et eg ek = record {
+  phase = refl;
+  holds = eg;
+  first = of_widths (Below test 6) (λ low. er) (λ low. ed) (λ low. es) (λ low. ew) (λ low. et) (λ low. absurd (omega arith)) (λ low. absurd (omega arith));
+}
+first_of_widths test false false false false false false true er ed es ew et eg ek = record {
+  phase = refl;
+  holds = ek;
+  first = of_widths (Below test 7) (λ low. er) (λ low. ed) (λ low. es) (λ low. ew) (λ low. et) (λ low. eg) (λ low. absurd (omega arith));
+}
 first_of_widths test false false false false false false false er ed es ew et eg ek = of_widths (λ kind. test kind ≡ false) er ed es ew et eg ek

@@ -74,6 +74,7 @@ module _ (cards : List Card) (scope : Scope) (place : Option ℕ) (begun : IsOpe
           → place_of (operations_of cards x) op ≡ option_map_or (λ (card : Card). place_of (operation_names card) op) (slice_get cards x.kind) 0
       of_card x None e has = let no : is_some (slice_get cards x.kind) ≡ false = ap is_some e in absurd (let wrong : true ≡ false = sym has ∙ no in cc)
       of_card x (Some card) e has = rw e refl
+
       go : (o : Option Resource) → unit_named scope.design unit ≡ o
           → option_map_or (λ (operations : List (List ℕ)). place_of operations op) (option_map (operations_of cards) o) 0
           ≡ option_map_or (λ (card : Card). place_of (operation_names card) op) (option_and_then (λ (x : Resource). slice_get cards x.kind) o) 0

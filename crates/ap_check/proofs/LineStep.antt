@@ -137,18 +137,20 @@ line_step cards statements before n a old new result micro law whole acted ports
       let act_kept : narrowed_act a ≡ a = kept_act old.design (width_in old) (stage_of n.statement) a none narrow here in
       let stage_kept : narrowed (stage_of n.statement) ≡ stage_of n.statement = kept_stage old.design (width_in old) (stage_of n.statement) a none added.stages in
       let made : new ≡ with_draft_line old (record { line = n.line; stage = stage_of n.statement; act = a }) =
-        h.1 ∙ ap (λ (x : Act). with_draft_line old (record { line = n.line; stage = narrowed (stage_of n.statement); act = x })) act_kept
-        ∙ ap (λ t. with_draft_line old (record { line = n.line; stage = t; act = a })) stage_kept in
+      h.1 ∙ ap (λ (x : Act). with_draft_line old (record { line = n.line; stage = narrowed (stage_of n.statement); act = x })) act_kept
+      ∙ ap (λ t. with_draft_line old (record { line = n.line; stage = t; act = a })) stage_kept in
       let blocks : blocks_of (before ++ n ∷ []) ≡ with_line n (blocks_of before) =
-        blocks_push before n ∙ ap (λ m. if m then with_line n (blocks_of before) else begun n n.statement ++ blocks_of before) micro in
+      blocks_push before n ∙ ap (λ m. if m then with_line n (blocks_of before) else begun n n.statement ++ blocks_of before) micro in
       let acts = subst (λ (d : Design). act_of cards d (arg_of (open_fields d (blocks_of before)) (local_names (open_lines (blocks_of before)))) n.statement ≡ Some a) whole acted in
-      let width = local_kept old (stage_of n.statement) a none narrow ∙ local_same cards (declarations statements cards) (blocks_of before) old (knows.declares ∙ whole) knows.split a in
-      (fault ∙ none, record {
-        declares = ap (λ (d : Draft). record d.design { instrs = [] }) made ∙ knows.declares ∙ sym law;
-        split =
-          subst (λ bs. IsSplit cards (declarations statements cards) bs new.design.instrs new.begun) (sym blocks)
-          (subst (λ (d : Draft). IsSplit cards (declarations statements cards) (with_line n (blocks_of before)) d.design.instrs d.begun) (sym made)
-          (split_grown cards (declarations statements cards) (blocks_of before) n a old.design.instrs old.begun (local_in old a) acts width knows.split));
-        narrow = subst (λ (d : Draft). d.design.word ≤ 64) (sym made) knows.narrow;
-      })
+      let width = local_kept old (stage_of n.statement) a none narrow ∙ local_same cards (declarations statements cards) (blocks_of before) old (knows.declares ∙ whole) knows.split a in (
+        fault ∙ none,
+        record {
+          declares = ap (λ (d : Draft). record d.design { instrs = [] }) made ∙ knows.declares ∙ sym law;
+          split =
+              subst (λ bs. IsSplit cards (declarations statements cards) bs new.design.instrs new.begun) (sym blocks)
+              (subst (λ (d : Draft). IsSplit cards (declarations statements cards) (with_line n (blocks_of before)) d.design.instrs d.begun) (sym made)
+              (split_grown cards (declarations statements cards) (blocks_of before) n a old.design.instrs old.begun (local_in old a) acts width knows.split));
+          narrow = subst (λ (d : Draft). d.design.word ≤ 64) (sym made) knows.narrow;
+        },
+      )
   by (Err why) h = subst (λ f. IsStoppedBy f why) (sym (fault ∙ sym same_fault)) h

@@ -111,8 +111,8 @@ module _ (cards : List Card) (scope : Scope) (place : Option ℕ) (begun : IsOpe
 
   unit_grown : (name kind : List ℕ) (width latency : ℕ) → is_among name d.units ≡ false → not (is_among kind (kind_names cards)) ≡ false
       → let unit : Resource = record { name = name; kind = place_of (kind_names cards) kind; width = width; latency = latency } in
-        KnowsNames cards (record scope { design = record scope.design { units = scope.design.units ++ unit ∷ [] } })
-        (record d { units = with_name d.units name; operations = d.operations ++ option_map_or operation_names (card_named cards kind) [] ∷ [] })
+      KnowsNames cards (record scope { design = record scope.design { units = scope.design.units ++ unit ∷ [] } })
+      (record d { units = with_name d.units name; operations = d.operations ++ option_map_or operation_names (card_named cards kind) [] ∷ [] })
   unit_grown name kind width latency new found =
       let unit : Resource = record { name = name; kind = place_of (kind_names cards) kind; width = width; latency = latency } in
       let at = at_place (λ (c : Card). c.name) cards kind in
@@ -205,6 +205,6 @@ pub names_grow : (cards : List Card) (scope : Scope) (m : Numbered) (d : Declare
     → KnowsNames cards (scope_with cards scope m) (declared_with cards d m.statement used)
 names_grow cards scope m d used knows clean same =
     let after : (t : Declared) → d ≡ t → KnowsNames cards (scope_with cards scope m) (declared_with cards t m.statement (use_of cards t m.statement)) → KnowsNames cards (scope_with cards scope m) (declared_with cards d m.statement used) =
-      λ t e h. subst (λ x. KnowsNames cards (scope_with cards scope m) (declared_with cards d m.statement x)) (sym same) (subst (λ x. KnowsNames cards (scope_with cards scope m) (declared_with cards x m.statement (use_of cards x m.statement))) (sym e) h) in
+    λ t e h. subst (λ x. KnowsNames cards (scope_with cards scope m) (declared_with cards d m.statement x)) (sym same) (subst (λ x. KnowsNames cards (scope_with cards scope m) (declared_with cards x m.statement (use_of cards x m.statement))) (sym e) h) in
     after (tables_of cards scope d.begun) knows.tables
     (all_grown cards scope d.begun knows.fields knows.kinds m.line m.statement (none_of_names _ _ _ _ (sym (ap (λ t. name_fault cards t m.statement) knows.tables) ∙ clean)))

@@ -36,11 +36,14 @@ found_place f name ks (Some i) at found = (any_of_map f (bytes_eq name) ks ∙ s
   where
     place : ℕ
     place = position_or_len (λ k. bytes_eq name (f k)) ks
+
     by : (b : Bool) (p : ℕ) → Some i ≡ cond b (Some p) None → b ≡ nat_lt p (length ks) → (i ≡ p) × (p < length ks)
     by true p e is = (cc, grind (arith, nat_tests))
     by false p e is = absurd (let no : Some i ≡ None = e in cc)
+
     here : (i ≡ position_or_len (λ k. bytes_eq name (f k)) ks) × (position_or_len (λ k. bytes_eq name (f k)) ks < length ks)
     here = by (nat_lt (position_or_len (λ k. bytes_eq name (f k)) ks) (length ks)) (position_or_len (λ k. bytes_eq name (f k)) ks) at refl
+
     within : i < length (map f ks)
     within = let longer : length (map f ks) ≡ length ks = length-map ks f in omega (arith, longer, here.0, here.1)
 
@@ -117,8 +120,8 @@ pub fields_twice : (fields : List FieldNumber) (i : ℕ) (x : FieldNumber) (name
     → is_among x.field names ≡ true → are_distinct (field_names fields) ≡ false
 fields_twice fields i x names lt at so_far there =
     let whole : field_names fields ≡ names ++ x.field ∷ field_names (drop (i + 1) fields) =
-        ap field_names (sym (take-append-drop (i + 1) fields)) ∙ map-append (λ (f : FieldNumber). f.field) (take (i + 1) fields) (drop (i + 1) fields)
-        ∙ ap (λ ns. ns ++ field_names (drop (i + 1) fields)) (fields_taken fields i x lt at ∙ ap (λ ns. ns ++ x.field ∷ []) (sym so_far)) ∙ append_assoc names (x.field ∷ []) (field_names (drop (i + 1) fields)) in
+    ap field_names (sym (take-append-drop (i + 1) fields)) ∙ map-append (λ (f : FieldNumber). f.field) (take (i + 1) fields) (drop (i + 1) fields)
+    ∙ ap (λ ns. ns ++ field_names (drop (i + 1) fields)) (fields_taken fields i x lt at ∙ ap (λ ns. ns ++ x.field ∷ []) (sym so_far)) ∙ append_assoc names (x.field ∷ []) (field_names (drop (i + 1) fields)) in
     subst (λ ns. are_distinct ns ≡ false) (sym whole) (twice_then names x.field (field_names (drop (i + 1) fields)) there)
 
 -- the names so far, none of which stands twice, with one more
@@ -127,19 +130,19 @@ among_apart name [] i distinct at = absurd cc
 among_apart name (x ∷ names) zero distinct at = refl
 among_apart name (x ∷ names) (suc i) distinct at =
     or_neither (bytes_eq name x) (is_among name (take i names)) (false_from_ne_true (bytes_eq name x) (λ same. each_at names i distinct.0 at ((bytes_eq-Decides name x).0 same))) (among_apart name names i distinct.1 at) where
-  each_at : (others : List (List ℕ)) (j : ℕ) → Each (λ other. other ≢ x) others → slice_get others j ≡ Some name → name ≢ x
-  each_at [] j each got = absurd cc
-  each_at (other ∷ others) zero each got = let here : other ≡ name = cc in subst (λ n. n ≢ x) here each.0
-  each_at (other ∷ others) (suc j) each got = each_at others j each.1 got
+      each_at : (others : List (List ℕ)) (j : ℕ) → Each (λ other. other ≢ x) others → slice_get others j ≡ Some name → name ≢ x
+      each_at [] j each got = absurd cc
+      each_at (other ∷ others) zero each got = let here : other ≡ name = cc in subst (λ n. n ≢ x) here each.0
+      each_at (other ∷ others) (suc j) each got = each_at others j each.1 got
 
 pub names_more : (all : List (List ℕ)) (i : ℕ) (name : List ℕ) (names after : List (List ℕ)) → AreDistinct all → slice_get all i ≡ Some name → names ≡ take i all → after ≡ with_name names name → after ≡ take (i + 1) all
 names_more all i name names after distinct at so_far e =
     e ∙ ap (λ ns. with_name ns name) so_far ∙ with_new (take i all) name (among_apart name all i distinct at) ∙ sym (take_got all i name at)
   where
-  take_got : (xs : List (List ℕ)) (j : ℕ) (x : List ℕ) → slice_get xs j ≡ Some x → take (j + 1) xs ≡ take j xs ++ x ∷ []
-  take_got [] j x got = absurd cc
-  take_got (y ∷ xs) zero x got = let here : y ≡ x = cc in ap (λ z. z ∷ []) here
-  take_got (y ∷ xs) (suc j) x got = let up : suc j + 1 ≡ suc (j + 1) = omega arith in ap (λ n. take n (y ∷ xs)) up ∙ ap (λ zs. y ∷ zs) (take_got xs j x got)
+    take_got : (xs : List (List ℕ)) (j : ℕ) (x : List ℕ) → slice_get xs j ≡ Some x → take (j + 1) xs ≡ take j xs ++ x ∷ []
+    take_got [] j x got = absurd cc
+    take_got (y ∷ xs) zero x got = let here : y ≡ x = cc in ap (λ z. z ∷ []) here
+    take_got (y ∷ xs) (suc j) x got = let up : suc j + 1 ≡ suc (j + 1) = omega arith in ap (λ n. take n (y ∷ xs)) up ∙ ap (λ zs. y ∷ zs) (take_got xs j x got)
 
 -- the kind of a name
 pub kind_from : (name : List ℕ) (k : ℕ) (cards : List Card) (i : ℕ) → position_from (λ (c : Card). bytes_eq c.name name) k cards ≡ Some i → (is_among name (kind_names cards) ≡ true) × (i ≡ k + place_of (kind_names cards) name)

@@ -29,8 +29,9 @@ fault_last cards before n kind line fault = by (beside before n [] fault.before 
   by : IsBeside before n [] fault.before fault.n fault.place.after → HasStatementFault before cards kind line ⊎ FaultAt cards before n kind line
   by (inl (mid, split)) = inl (record { before = fault.before; n = fault.n; place = record { after = mid; parts = split; numbered = fault.place.numbered }; holds = fault.holds })
   by (inr (inl (same, one))) = inr (
-      ap (λ (m : Numbered). m.line) (sym one) ∙ fault.place.numbered,
-      subst (λ (m : Numbered). IsTrue (is_faulty cards (scope_after before cards) m.statement kind)) one (subst (λ (l : List Numbered). IsTrue (is_faulty cards (scope_after l cards) fault.n.statement kind)) same fault.holds))
+    ap (λ (m : Numbered). m.line) (sym one) ∙ fault.place.numbered,
+    subst (λ (m : Numbered). IsTrue (is_faulty cards (scope_after before cards) m.statement kind)) one (subst (λ (l : List Numbered). IsTrue (is_faulty cards (scope_after l cards) fault.n.statement kind)) same fault.holds),
+  )
   by (inr (inr (mid, none))) = absurd (no_parts mid fault.n fault.place.after none)
 
 -- a fault stays with more statements
@@ -83,7 +84,7 @@ noted_stays cards statements before n after refusal rise e old = record {
     up : refusal.line < n.line
     up = let at : old.holds.1.n.line ≡ refusal.line = old.holds.1.place.numbered in
         let low : old.holds.1.n.line < n.line = later_line statements old.holds.1.before old.holds.1.n old.holds.1.place.after n after rise
-            (e ∙ ap (λ l. l ++ n ∷ after) old.holds.1.place.parts ∙ append_assoc old.holds.1.before (old.holds.1.n ∷ old.holds.1.place.after) (n ∷ after)) in
+        (e ∙ ap (λ l. l ++ n ∷ after) old.holds.1.place.parts ∙ append_assoc old.holds.1.before (old.holds.1.n ∷ old.holds.1.place.after) (n ∷ after)) in
         omega arith
 
     least : (other : Fault) (line : ℕ) → HasFaultOf (before ++ n ∷ []) cards 3 other line → IsBefore other line refusal.kind refusal.line → ⊥

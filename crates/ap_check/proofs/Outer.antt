@@ -117,17 +117,19 @@ pub outer_step : (cards : List Card) (statements before : List Numbered) (n : Nu
     → declarations (before ++ n ∷ []) cards ≡ with_declared cards n.line n.statement (declarations before cards)
     → Describes cards statements before old → IsSaid cards n.line old n.statement new result → IsStepped cards statements before n new result
 outer_step cards statements before n old new (Ok done) outer plain law knows said =
-    let same = outer_same cards (scope_after before cards) old.design n.statement outer knows.declares in
-    (sym same ∙ said.0, record {
-      declares = ap (λ (d : Draft). bare d.design) said.1 ∙ declared_beside cards n.line n.statement old.design ∙ ap (with_declared cards n.line n.statement) knows.declares ∙ sym law;
-      split =
-        let blocks : blocks_of (before ++ n ∷ []) ≡ blocks_of before = blocks_push before n ∙ blocks_kept (blocks_of before) n n.statement outer plain in
-        let closed : new.design.instrs ≡ old.design.instrs = ap (λ (d : Draft). d.design.instrs) said.1 ∙ instrs_left cards n.line n.statement old.design in
-        let open_one : new.begun ≡ old.begun = ap (λ (d : Draft). d.begun) said.1 in
-        subst (λ bs. IsSplit cards (declarations statements cards) bs new.design.instrs new.begun) (sym blocks)
-        (subst (λ is. IsSplit cards (declarations statements cards) (blocks_of before) is new.begun) (sym closed)
-        (subst (λ o. IsSplit cards (declarations statements cards) (blocks_of before) old.design.instrs o) (sym open_one) knows.split));
-      narrow = subst (λ (d : Draft). d.design.word ≤ 64) (sym said.1) (word_kept cards n.line n.statement old.design said.0 knows.narrow);
-    })
+    let same = outer_same cards (scope_after before cards) old.design n.statement outer knows.declares in (
+      sym same ∙ said.0,
+      record {
+        declares = ap (λ (d : Draft). bare d.design) said.1 ∙ declared_beside cards n.line n.statement old.design ∙ ap (with_declared cards n.line n.statement) knows.declares ∙ sym law;
+        split =
+            let blocks : blocks_of (before ++ n ∷ []) ≡ blocks_of before = blocks_push before n ∙ blocks_kept (blocks_of before) n n.statement outer plain in
+            let closed : new.design.instrs ≡ old.design.instrs = ap (λ (d : Draft). d.design.instrs) said.1 ∙ instrs_left cards n.line n.statement old.design in
+            let open_one : new.begun ≡ old.begun = ap (λ (d : Draft). d.begun) said.1 in
+            subst (λ bs. IsSplit cards (declarations statements cards) bs new.design.instrs new.begun) (sym blocks)
+            (subst (λ is. IsSplit cards (declarations statements cards) (blocks_of before) is new.begun) (sym closed)
+            (subst (λ o. IsSplit cards (declarations statements cards) (blocks_of before) old.design.instrs o) (sym open_one) knows.split));
+        narrow = subst (λ (d : Draft). d.design.word ≤ 64) (sym said.1) (word_kept cards n.line n.statement old.design said.0 knows.narrow);
+      },
+    )
 outer_step cards statements before n old new (Err why) outer plain law knows said =
     subst (λ fault. IsStoppedBy fault why) (outer_same cards (scope_after before cards) old.design n.statement outer knows.declares) said

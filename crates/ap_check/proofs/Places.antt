@@ -25,6 +25,7 @@ beside {X} (b ∷ before) n after (b' ∷ before') n' after' e = by (beside befo
   where
     first : b ≡ b'
     first = head_same b b' (before ++ n ∷ after) (before' ++ n' ∷ after') e
+
     by : IsBeside before n after before' n' after' → IsBeside (b ∷ before) n after (b' ∷ before') n' after'
     by (inl (mid, same)) = inl (mid, both_same b b' before (before' ++ n' ∷ mid) first same)
     by (inr (inl (same, at))) = inr (inl (both_same b' b before' before (sym first) same, at))

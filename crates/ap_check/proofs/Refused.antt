@@ -45,6 +45,7 @@ names_refused statements cards before n after refusal described e clean h = reco
   where
     second : phase_of refusal.kind ≡ 2
     second = h.2.phase
+
     here : refusal.line ≡ n.line
     here = h.1
 
@@ -65,7 +66,7 @@ names_refused statements cards before n after refusal described e clean h = reco
         by (inl (mid, split, up)) = let at = fault.place.numbered in absurd (omega arith)
         by (inr (split, one)) =
             let moved : IsTrue (is_faulty cards (scope_after before cards) n.statement kind) =
-                subst (λ (m : Numbered). IsTrue (is_faulty cards (scope_after before cards) m.statement kind)) one (subst (λ (l : List Numbered). IsTrue (is_faulty cards (scope_after l cards) fault.n.statement kind)) split fault.holds) in
+            subst (λ (m : Numbered). IsTrue (is_faulty cards (scope_after before cards) m.statement kind)) one (subst (λ (l : List Numbered). IsTrue (is_faulty cards (scope_after l cards) fault.n.statement kind)) split fault.holds) in
             let not = h.2.first kind (same ∙ second) lower in
             absurd (true≢false (sym moved ∙ not))
 

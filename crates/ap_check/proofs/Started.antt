@@ -11,15 +11,36 @@ use Rattle.ap_check.proofs.Noted.{no_parts}
 
 abbrev pub no_names : Declared
 no_names = record {
-  regs = []; files = []; mems = []; inputs = []; units = []; formats = []; instrs = [];
-  ports = []; operations = []; fields = []; begun = None; locals = [];
+  regs = [];
+  files = [];
+  mems = [];
+  inputs = [];
+  units = [];
+  formats = [];
+  instrs = [];
+  ports = [];
+  operations = [];
+  fields = [];
+  begun = None;
+  locals = [];
 }
 
 abbrev pub no_design : Draft
 no_design = record {
   design = record {
-    stages = 0; address = 0; word = 0; branch = 0; slots = 0; transfer_line = 0;
-    regs = []; files = []; mems = []; inputs = []; units = []; formats = []; instrs = [];
+    stages = 0;
+    address = 0;
+    word = 0;
+    branch = 0;
+    slots = 0;
+    transfer_line = 0;
+    regs = [];
+    files = [];
+    mems = [];
+    inputs = [];
+    units = [];
+    formats = [];
+    instrs = [];
   };
   begun = None;
 }

@@ -101,8 +101,10 @@ module _ (cards : List Card) (scope : Scope) (place : Option ℕ) (begun : IsOpe
     by_file : (o : Option File) → not (nat_lt port (option_map_or ports_of o (record { reads = 0; writes = 0 })).reads) ≡ option_map_or (λ (f : File). not (nat_lt port f.reads)) o true
     by_file None = not_below_zero port
     by_file (Some f) = refl
+
     core : not (nat_lt port (ports_at d (place_of (file_names scope.design) file)).reads) ≡ n.is_no_read_port scope file port
     core = ap (λ (p : Ports). not (nat_lt port p.reads)) (ports_same file) ∙ by_file (file_named scope.design file)
+
     go : (b : Bool) → is_among file (file_names scope.design) ≡ b → (not (is_among file (file_names scope.design)) || not (nat_lt port (ports_at d (place_of (file_names scope.design) file)).reads)) ≡ n.is_no_read_port scope file port
     go true e = ap (λ b. not b || not (nat_lt port (ports_at d (place_of (file_names scope.design) file)).reads)) e ∙ core
     go false e = ap (λ b. not b || not (nat_lt port (ports_at d (place_of (file_names scope.design) file)).reads)) e
@@ -113,8 +115,10 @@ module _ (cards : List Card) (scope : Scope) (place : Option ℕ) (begun : IsOpe
     by_file : (o : Option File) → not (nat_lt port (option_map_or ports_of o (record { reads = 0; writes = 0 })).writes) ≡ option_map_or (λ (f : File). not (nat_lt port f.writes)) o true
     by_file None = not_below_zero port
     by_file (Some f) = refl
+
     core : not (nat_lt port (ports_at d (place_of (file_names scope.design) file)).writes) ≡ n.is_no_write_port scope file port
     core = ap (λ (p : Ports). not (nat_lt port p.writes)) (ports_same file) ∙ by_file (file_named scope.design file)
+
     go : (b : Bool) → is_among file (file_names scope.design) ≡ b → (not (is_among file (file_names scope.design)) || not (nat_lt port (ports_at d (place_of (file_names scope.design) file)).writes)) ≡ n.is_no_write_port scope file port
     go true e = ap (λ b. not b || not (nat_lt port (ports_at d (place_of (file_names scope.design) file)).writes)) e ∙ core
     go false e = ap (λ b. not b || not (nat_lt port (ports_at d (place_of (file_names scope.design) file)).writes)) e
@@ -176,6 +180,7 @@ module _ (cards : List Card) (scope : Scope) (place : Option ℕ) (begun : IsOpe
           → is_missing op (operations_of cards x) ≡ option_map_or (λ (card : Card). is_missing op (operation_names card)) (slice_get cards x.kind) false
       of_card x None e has = let no : is_some (slice_get cards x.kind) ≡ false = ap is_some e in absurd (let wrong : true ≡ false = sym has ∙ no in cc)
       of_card x (Some card) e has = rw e refl
+
       go : (o : Option Resource) → unit_named scope.design unit ≡ o
           → option_map_or (λ (operations : List (List ℕ)). is_missing op operations) (option_map (operations_of cards) o) false
           ≡ option_map_or (λ (card : Card). is_missing op (operation_names card)) (option_and_then (λ (x : Resource). slice_get cards x.kind) o) false
@@ -195,5 +200,5 @@ module _ (cards : List Card) (scope : Scope) (place : Option ℕ) (begun : IsOpe
 pub names_judged : (cards : List Card) (scope : Scope) (d : Declared) (statement : Statement) → KnowsNames cards scope d → IsFaultOf (is_faulty cards scope statement) 2 (name_fault cards d statement)
 names_judged cards scope d statement knows =
     let same : name_fault cards d statement ≡ first_name_fault (n.is_unknown scope statement) (n.is_twice scope statement) (n.is_no_kind cards statement) (n.is_no_operation cards scope statement) =
-      ap (λ t. name_fault cards t statement) knows.tables ∙ name_faults_same cards scope d.begun knows.fields knows.kinds statement in
+    ap (λ t. name_fault cards t statement) knows.tables ∙ name_faults_same cards scope d.begun knows.fields knows.kinds statement in
     subst (IsFaultOf (is_faulty cards scope statement) 2) (sym same) (first_of_names (is_faulty cards scope statement) _ _ _ _ refl refl refl refl)

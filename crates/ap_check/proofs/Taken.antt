@@ -87,7 +87,7 @@ module _ (cards : List Card) (statements before : List Numbered) (line : ℕ) (d
   micro_step statement used micro whole law names clean same knows added =
       let does = acts cards (declarations before cards) (arg_of scope.fields scope.locals) statement micro in
       let by_tables : line_act d statement ≡ Some (narrowed_act does.0) =
-        ap (λ t. line_act t statement) names.tables ∙ act_same cards scope d.begun names.fields names.kinds statement ∙ ap (option_map narrowed_act) does.1 in
+      ap (λ t. line_act t statement) names.tables ∙ act_same cards scope d.begun names.fields names.kinds statement ∙ ap (option_map narrowed_act) does.1 in
       let line_used : used ≡ u.Line (narrowed_act does.0) = same ∙ uses_line cards d statement micro ∙ ap (λ o. option_map_or u.Line o u.Nothing) by_tables in
       let judged = sym (ap (λ t. name_fault cards t statement) names.tables ∙ name_faults_same cards scope d.begun names.fields names.kinds statement) ∙ clean in
       let ports : PortFits (declarations before cards) does.0 = subst (FitsPorts (declarations before cards)) does.1 (ports_fit cards scope statement (none_of_names _ _ _ _ judged).0) in
@@ -168,7 +168,7 @@ pub refused_first : (cards : List Card) (before : List Numbered) (m : Numbered) 
 refused_first cards before m d NoMemory names h = tt
 refused_first cards before m d (Refused refusal) names h =
     let first : IsFirstOf (is_faulty cards (scope_after before cards) m.statement) 2 refusal.kind =
-      subst (IsFaultOf (is_faulty cards (scope_after before cards) m.statement) 2) h.0 (names_judged cards (scope_after before cards) d m.statement names) in
+    subst (IsFaultOf (is_faulty cards (scope_after before cards) m.statement) 2) h.0 (names_judged cards (scope_after before cards) d m.statement names) in
     (ap (λ (r : Refusal). r.phase) h.1 ∙ first.phase, ap (λ (r : Refusal). r.line) h.1, first)
 
 -- all together

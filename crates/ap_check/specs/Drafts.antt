@@ -95,7 +95,7 @@ unit_fault card width = first_width_fault (not (is_width width)) false false fal
 abbrev pub IsUnitSaid : Card → Draft → ℕ → List ℕ → ℕ → Draft → Result (Unit {0}) Stop → Type 0
 IsUnitSaid card old place name width new result = MatchResult result
     (λ _. (unit_fault card width ≡ None)
-        × (new ≡ record old { design = record old.design { units = old.design.units ++ record { name = name; kind = place; width = width; latency = latency_at card width } ∷ [] } }))
+    × (new ≡ record old { design = record old.design { units = old.design.units ++ record { name = name; kind = place; width = width; latency = latency_at card width } ∷ [] } }))
     (IsStoppedBy (unit_fault card width))
 
 -- the fields of the format at a place

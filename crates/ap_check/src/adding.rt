@@ -118,10 +118,18 @@ impl Draft {
             Statement::Word { bits } => self.word(*bits),
             Statement::Transfer { stage, slots } => self.transfer(n.line, *stage, *slots),
             Statement::Reg { name, width, reset } => self.reg(alloc, name, *width, *reset),
-            Statement::File { name, width, cells, reads, writes } => {
-                self.file(alloc, name, *width, *cells, *reads, *writes)
-            }
-            Statement::Mem { name, address, width } => self.mem(alloc, name, *address, *width),
+            Statement::File {
+                name,
+                width,
+                cells,
+                reads,
+                writes,
+            } => { self.file(alloc, name, *width, *cells, *reads, *writes) }
+            Statement::Mem {
+                name,
+                address,
+                width,
+            } => self.mem(alloc, name, *address, *width),
             Statement::In { name, width } => self.input(alloc, name, *width),
             Statement::Unit { name, kind, width } => {
                 self.unit_of(alloc, shelf, name, kind, *width)
@@ -129,9 +137,11 @@ impl Draft {
             Statement::Format { name, fields } => {
                 self.format(alloc, n.line, name, fields.as_slice())
             }
-            Statement::Instr { name, format, fixed } => {
-                self.begin(alloc, n.line, name, format, fixed.as_slice(), used)
-            }
+            Statement::Instr {
+                name,
+                format,
+                fixed,
+            } => { self.begin(alloc, n.line, name, format, fixed.as_slice(), used) }
             Statement::End => Ok(()),
             _ => self.line(n, used),
         }

@@ -60,8 +60,19 @@ impl Declared {
     /// Nothing is declared yet.
     pub(crate) fn new(alloc: Global) -> Declared
         ensures { result ≡ record {
-            regs = []; files = []; mems = []; inputs = []; units = []; formats = []; instrs = [];
-            ports = []; operations = []; fields = []; begun = Option.None; locals = [] } }
+          regs = [];
+          files = [];
+          mems = [];
+          inputs = [];
+          units = [];
+          formats = [];
+          instrs = [];
+          ports = [];
+          operations = [];
+          fields = [];
+          begun = Option.None;
+          locals = [];
+        } }
     {
         Declared {
             regs: Names::new(alloc),
@@ -97,7 +108,10 @@ impl Declared {
     {
         match self.ports.as_slice().get(file as usize) {
             Some(ports) => *ports,
-            None => Ports { reads: 0, writes: 0 },
+            None => Ports {
+                reads: 0,
+                writes: 0,
+            },
         }
     }
 

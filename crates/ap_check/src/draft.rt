@@ -8,12 +8,12 @@ use crate::names::Names;
 use crate::numbers::has_bits;
 use crate::stop::{Stop, need};
 use ap_bits::{Items, Name, NoMemory};
-use ap_desc::{Fault, FieldNumber};
 use ap_desc::design::{Design, Field, File, Format, InPort, Instr, Mem, Reg, Unit};
 use ap_desc::limits::{
     MAX_ADDRESS_BITS, MAX_MEMORY_ADDRESS_BITS, MAX_READ_PORTS, MAX_SLOTS, MAX_STAGES, MAX_WIDTH,
     MAX_WORD_BITS, MAX_WRITE_PORTS, MIN_ADDRESS_BITS, MIN_STAGES, MIN_WORD_BITS,
 };
+use ap_desc::{Fault, FieldNumber};
 use ap_unit::UnitKind;
 use std::alloc::Global;
 
@@ -79,9 +79,24 @@ impl Draft {
 
     /// Before the first statement.
     pub(crate) fn new(alloc: Global) -> Draft
-        ensures { result ≡ record { design = record {
-            stages = 0; address = 0; word = 0; branch = 0; slots = 0; transfer_line = 0; regs = []; files = [];
-            mems = []; inputs = []; units = []; formats = []; instrs = [] }; begun = None } }
+        ensures { result ≡ record {
+          design = record {
+            stages = 0;
+            address = 0;
+            word = 0;
+            branch = 0;
+            slots = 0;
+            transfer_line = 0;
+            regs = [];
+            files = [];
+            mems = [];
+            inputs = [];
+            units = [];
+            formats = [];
+            instrs = [];
+          };
+          begun = None;
+        } }
     {
         let design = Design {
             stages: 0,

@@ -145,7 +145,11 @@ impl Environment {
             Ok(()) => {}
             Err(_) => return Err(DescFault::NoMemory),
         }
-        let Environment { noted: _, declared: _, draft } = self;
+        let Environment {
+            noted: _,
+            declared: _,
+            draft,
+        } = self;
         let Draft { design, begun: _ } = draft;
         Ok(design)
     }

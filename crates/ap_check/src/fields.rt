@@ -38,10 +38,7 @@ fn total_width(fields: &[FieldNumber]) -> u32
 
 /// The fields of a format: each lies above those after it. The sum of their widths has 32 bits.
 #[tactic(auto, using(crate::proofs::FieldLists::field_sums))]
-pub(crate) fn placed_fields(
-    alloc: Global,
-    fields: &[FieldNumber],
-) -> Result<Items<Field>, NoMemory>
+pub(crate) fn placed_fields(alloc: Global, fields: &[FieldNumber]) -> Result<Items<Field>, NoMemory>
     requires { field_bits fields.now < 2 ^ 32 }
     ensures { IfOk result (λ placed. placed ≡ fields_said fields.now) }
 {
@@ -122,12 +119,7 @@ fn value_bits(word: u32, field: &Field, value: Option<u64>) -> u64
 
 /// The bits that an `instr` line fixes, at most all of 64; these are the names of its fields.
 #[tactic(auto, using(crate::proofs::FieldLists::field_sums))]
-pub(crate) fn fixed_mask(
-    word: u32,
-    fields: &[Field],
-    names: &Names,
-    fixed: &[FieldNumber],
-) -> u64
+pub(crate) fn fixed_mask(word: u32, fields: &[Field], names: &Names, fixed: &[FieldNumber]) -> u64
     requires word { word ≤ 64 }
     requires names { names.now ≡ field_names fixed.now }
     ensures { result ≡ min (sum_by (mask_of word fixed.now) fields.now) 18446744073709551615 }
@@ -141,12 +133,7 @@ pub(crate) fn fixed_mask(
 
 /// The values of these bits.
 #[tactic(auto, using(crate::proofs::FieldLists::field_sums))]
-pub(crate) fn fixed_bits(
-    word: u32,
-    fields: &[Field],
-    names: &Names,
-    fixed: &[FieldNumber],
-) -> u64
+pub(crate) fn fixed_bits(word: u32, fields: &[Field], names: &Names, fixed: &[FieldNumber]) -> u64
     requires word { word ≤ 64 }
     requires names { names.now ≡ field_names fixed.now }
     ensures { result ≡ min (sum_by (value_of word fixed.now) fields.now)

@@ -157,7 +157,13 @@ impl Declared {
         let value = self.operand(value)?;
         let guard = self.guard(guard)?;
         let port = narrow(port);
-        Ok(Use::Line(Act::WriteFile { file, port, index, value, guard }))
+        Ok(Use::Line(Act::WriteFile {
+            file,
+            port,
+            index,
+            value,
+            guard,
+        }))
     }
 
     /// `S R <- v`
@@ -191,7 +197,12 @@ impl Declared {
         let at = self.operand(at)?;
         let value = self.operand(value)?;
         let guard = self.guard(guard)?;
-        Ok(Use::Line(Act::WriteMem { mem, at, value, guard }))
+        Ok(Use::Line(Act::WriteMem {
+            mem,
+            at,
+            value,
+            guard,
+        }))
     }
 
     /// `S branch c t`
@@ -219,8 +230,21 @@ impl Declared {
         ensures { IsUse [] self.now statement.now result }
     {
         match statement {
-            Statement::Compute { to, unit, op, a, b, .. } => self.compute(to, unit, op, a, b),
-            Statement::ReadFile { to, file, port, index, .. } => self.read_file(to, file, *port, index),
+            Statement::Compute {
+                to,
+                unit,
+                op,
+                a,
+                b,
+                ..
+            } => self.compute(to, unit, op, a, b),
+            Statement::ReadFile {
+                to,
+                file,
+                port,
+                index,
+                ..
+            } => self.read_file(to, file, *port, index),
             Statement::ReadRegister { to, reg, .. } => self.read_register(to, reg),
             Statement::ReadMemory { to, mem, at, .. } => self.read_memory(to, mem, at),
             Statement::ReadInput { to, input, .. } => self.read_input(to, input),
@@ -234,10 +258,21 @@ impl Declared {
         ensures { IsUse [] self.now statement.now result }
     {
         match statement {
-            Statement::Const { to, width, value, .. } => self.constant(to, *width, *value),
+            Statement::Const {
+                to,
+                width,
+                value,
+                ..
+            } => self.constant(to, *width, *value),
             Statement::Zext { to, width, a, .. } => self.zext(to, *width, a),
             Statement::Sext { to, width, a, .. } => self.sext(to, *width, a),
-            Statement::Slice { to, high, low, a, .. } => self.slice(to, *high, *low, a),
+            Statement::Slice {
+                to,
+                high,
+                low,
+                a,
+                ..
+            } => self.slice(to, *high, *low, a),
             Statement::Cat { to, a, b, .. } => self.cat(to, a, b),
             _ => self.acts(statement),
         }
@@ -249,15 +284,27 @@ impl Declared {
         ensures { IsUse [] self.now statement.now result }
     {
         match statement {
-            Statement::WriteFile { file, port, index, value, guard, .. } => {
-                self.write_file(file, *port, index, value, guard)
-            }
-            Statement::WriteRegister { reg, value, guard, .. } => {
-                self.write_register(reg, value, guard)
-            }
-            Statement::WriteMemory { mem, at, value, guard, .. } => {
-                self.write_memory(mem, at, value, guard)
-            }
+            Statement::WriteFile {
+                file,
+                port,
+                index,
+                value,
+                guard,
+                ..
+            } => { self.write_file(file, *port, index, value, guard) }
+            Statement::WriteRegister {
+                reg,
+                value,
+                guard,
+                ..
+            } => { self.write_register(reg, value, guard) }
+            Statement::WriteMemory {
+                mem,
+                at,
+                value,
+                guard,
+                ..
+            } => { self.write_memory(mem, at, value, guard) }
             Statement::Branch { cond, target, .. } => self.branch(cond, target),
             Statement::Jump { target, .. } => self.jump(target),
             _ => unreachable!(),

@@ -6,9 +6,9 @@ ghost use Rattle.ap_desc.specs.Widths as w;
 use crate::draft::Draft;
 use crate::numbers::{has_bits, is_index, is_width, narrow};
 use crate::stop::{Stop, need};
+use ap_desc::Fault;
 use ap_desc::design::{Act, Arg, Field, Micro};
 use ap_desc::limits::MAX_WIDTH;
-use ap_desc::Fault;
 
 /// The width of a part, and 0 where there is none.
 macro_rules! at {
@@ -132,9 +132,7 @@ impl Draft {
             Act::Const { width, value: _ } => !is_width(u64::from(width)),
             Act::Zext { width, a: _ } => !is_width(u64::from(width)),
             Act::Sext { width, a: _ } => !is_width(u64::from(width)),
-            Act::Cat { a, b } => {
-                u64::from(self.width(a)) + u64::from(self.width(b)) > MAX_WIDTH
-            }
+            Act::Cat { a, b } => { u64::from(self.width(a)) + u64::from(self.width(b)) > MAX_WIDTH }
             _ => false,
         }
     }
@@ -148,16 +146,35 @@ impl Draft {
                 let width = self.unit_width(unit);
                 self.width(a) != width || self.width(b) != width
             }
-            Act::ReadFile { file, port: _, index } => !self.is_index(file, self.width(index)),
+            Act::ReadFile {
+                file,
+                port: _,
+                index,
+            } => !self.is_index(file, self.width(index)),
             Act::ReadMem { mem, at } => self.width(at) != self.mem_address(mem),
             Act::Zext { width, a } => width < self.width(a),
             Act::Sext { width, a } => width < self.width(a),
-            Act::WriteFile { file, port: _, index, value, guard: _ } => {
+            Act::WriteFile {
+                file,
+                port: _,
+                index,
+                value,
+                guard: _,
+            } => {
                 !self.is_index(file, self.width(index))
                     || self.width(value) != self.file_width(file)
             }
-            Act::WriteReg { reg, value, guard: _ } => self.width(value) != self.reg_width(reg),
-            Act::WriteMem { mem, at, value, guard: _ } => {
+            Act::WriteReg {
+                reg,
+                value,
+                guard: _,
+            } => self.width(value) != self.reg_width(reg),
+            Act::WriteMem {
+                mem,
+                at,
+                value,
+                guard: _,
+            } => {
                 self.width(at) != self.mem_address(mem) || self.width(value) != self.mem_width(mem)
             }
             _ => false,

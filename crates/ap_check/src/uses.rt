@@ -132,12 +132,7 @@ impl Declared {
 
     /// `format NAME FIELD:WIDTH ..`
     #[tactic(auto, using(crate::proofs::FirstFaults::first_faults))]
-    fn new_format(
-        &self,
-        alloc: Global,
-        name: &Name,
-        fields: &[FieldNumber],
-    ) -> Result<Use, Stop>
+    fn new_format(&self, alloc: Global, name: &Name, fields: &[FieldNumber]) -> Result<Use, Stop>
         ensures { IsUse [] self.now (s.Format name.now fields.now) result }
     {
         if self.formats.contains(name.as_str()) {
@@ -161,12 +156,7 @@ impl Declared {
     }
 
     /// The fields that an instruction fixes are fields of the format at this place.
-    fn known_fields(
-        &self,
-        alloc: Global,
-        format: u32,
-        fixed: &[FieldNumber],
-    ) -> Result<(), Fault>
+    fn known_fields(&self, alloc: Global, format: u32, fixed: &[FieldNumber]) -> Result<(), Fault>
         ensures known { OnOk result (list_any (λ (f : DeclaredFieldNumber).
             is_missing f.field (names_at self.now.fields format)) fixed.now ≡ false) }
         ensures missing { IfErr result (λ _. list_any (λ (f : DeclaredFieldNumber).
@@ -223,9 +213,11 @@ impl Declared {
             Statement::In { name, .. } => self.new_part(name),
             Statement::Unit { name, kind, .. } => self.new_unit(shelf, name, kind),
             Statement::Format { name, fields } => self.new_format(alloc, name, fields.as_slice()),
-            Statement::Instr { name, format, fixed } => {
-                self.new_instr(alloc, name, format, fixed.as_slice())
-            }
+            Statement::Instr {
+                name,
+                format,
+                fixed,
+            } => { self.new_instr(alloc, name, format, fixed.as_slice()) }
             _ => self.line(statement),
         }
     }
@@ -283,9 +275,17 @@ impl Declared {
     {
         match statement {
             Statement::Reg { name, .. } => self.regs.add(alloc, name.as_str()),
-            Statement::File { name, reads, writes, .. } => {
+            Statement::File {
+                name,
+                reads,
+                writes,
+                ..
+            } => {
                 self.files.add(alloc, name.as_str())?;
-                let ports = Ports { reads: *reads, writes: *writes };
+                let ports = Ports {
+                    reads: *reads,
+                    writes: *writes,
+                };
                 self.ports.push(ports)
             }
             Statement::Mem { name, .. } => self.mems.add(alloc, name.as_str()),

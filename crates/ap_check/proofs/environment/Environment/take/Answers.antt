@@ -1,5 +1,6 @@
-use Rattle.std.proofs.Common.{◌≡◌, ap}
+use Rattle.std.proofs.Common.{◌≡◌, List, ap}
 use Rattle.std.proofs.lemmas.Result.{err_from_is_err_and}
+use Rattle.ap_bits.specs.declared.card.Card.{Card}
 use Rattle.ap_unit.specs.Shelves.{cards_of}
 use Rattle.ap_check.specs.declared.declared.Declared.{Declared}
 use Rattle.ap_check.proofs.Taken.{has_fixed, has_kind_of, refused_first, taken}
@@ -21,7 +22,7 @@ returns-in_err-used g c =
 
 pub returns : goal.returns
 returns g c =
-    let cards = cards_of (λ x. (goal.UnitKind-dyn g x).card x.1) c.args.shelf.now in
+    let cards : List Card = cards_of (λ x. (goal.UnitKind-dyn g x).card x.1) c.args.shelf.now in
     let grow = c.descriptions_grow.ensures in
     λ statements before after described split knows.
     taken cards statements before c.args.n.now after c.args.self.now c.describe.new.self (record c.describe.new.self { declared = c.declare.new.self }) c.in_ok-used.used
