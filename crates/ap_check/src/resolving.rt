@@ -15,11 +15,7 @@ use ap_unit::{Shelf, UnitKind};
 use std::alloc::Global;
 
 /// The design that the lines of a description describe, judged for names and widths alone.
-fn described(
-    alloc: Global,
-    description: &Description,
-    shelf: &Shelf,
-) -> Result<Design, DescFault>
+fn described(alloc: Global, description: &Description, shelf: &Shelf) -> Result<Design, DescFault>
     ensures faultless { IfOk result
         (λ _. IsResolvable description.now (cards_of card shelf.now)) }
     ensures design { IfOk result
@@ -66,11 +62,7 @@ fn judged_ports(design: Design) -> Result<Design, DescFault>
 /// `Refused` comes exactly where the description has a fault of meaning, and names the least one: by its phase, then by its line,
 /// then by its number. The phases are names, widths, words, ports and stages. `NoMemory` comes only where memory ran out. The
 /// time goes with the number of statements.
-pub fn resolve(
-    alloc: Global,
-    description: &Description,
-    shelf: &Shelf,
-) -> Result<Design, DescFault>
+pub fn resolve(alloc: Global, description: &Description, shelf: &Shelf) -> Result<Design, DescFault>
     // A description that is resolved has no fault. The design is the one that it means; it is clean, and its units are of the
     // shelf's cards.
     ensures faultless { IfOk result
