@@ -1,0 +1,10 @@
+mod Pieces
+mod Words
+mod RightsRead
+mod LinesRead
+mod TextLines
+mod Fronts
+mod Grown
+mod NextLine
+mod ModuleRead
+mod TextRead

@@ -6,3 +6,6 @@ pub mod Answers
 pub mod TextLines
 pub mod Places
 pub mod Named
+pub mod Reading
+pub mod Scope
+pub mod Tables

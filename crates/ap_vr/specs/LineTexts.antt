@@ -16,12 +16,9 @@ use Rattle.ap_vr.specs.declared.line.NamedInstance.{NamedInstance}
 use Rattle.ap_vr.specs.declared.line.Line.{Line}
 use Rattle.ap_vr.specs.declared.line.Line.TheVariants as line
 
--- a port with its direction and its bits
-abbrev pub port_words : Port → List ℕ
-port_words p = (if p.output then codes "  output " else codes "  input ") ++ range_text p.width ++ codes " " ++ p.name
-
+-- a port with its direction and its bits, and a comma where another one follows
 abbrev pub port_line : Port → Bool → List ℕ
-port_line p more = port_words p ++ (if more then codes ",\n" else codes "\n")
+port_line p more = (if p.output then codes "  output " else codes "  input ") ++ range_text p.width ++ codes " " ++ p.name ++ (if more then codes ",\n" else codes "\n")
 
 abbrev pub register_line : Net → List ℕ
 register_line n = codes "  reg " ++ range_text n.width ++ codes " " ++ n.name ++ codes ";\n"

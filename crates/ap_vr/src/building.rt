@@ -3,7 +3,7 @@ use crate::driving::{differs_in, driven_twice_in, undriven_in};
 use crate::fault::{NetFault, NetKind, TEXT_LIMIT, at};
 use crate::module::NamedModule;
 use crate::names::Names;
-use crate::numbered::{Drivers, drivers};
+use crate::numbered::{Drivers, drivers_of};
 use crate::reading::read_modules;
 use crate::scope::{first_repeated, first_unknown};
 use ap_bits::{Items, NoMemory};
@@ -15,7 +15,7 @@ fn all_drivers(alloc: Global, modules: &[NamedModule]) -> Result<Vec<Drivers>, N
     let mut known = Names::new(alloc);
     let mut list = Vec::new(alloc);
     for (place, module) in modules.iter().enumerate() {
-        list.push(drivers(alloc, &known, &modules[..place], module)?)?;
+        list.push(drivers_of(alloc, &known, &modules[..place], module)?)?;
         known.push(module.name.as_str())?;
     }
     Ok(list)

@@ -7,6 +7,7 @@ use ap_net::net::{Instance, Port, Role};
 use std::alloc::Global;
 
 /// Which nets have a driver, by their numbers.
+#[derive(Drop)]
 struct Driven {
     /// Whether an assign or an instance may not drive the net any more: an input and a register from the start on.
     joined: Vec<bool>,
@@ -143,9 +144,7 @@ fn assign_fits(said: &SaidAssign) -> bool {
             Cell::Two(op, a, b) => two_fits(op, bits, a, b),
             Cell::Choose(s, a, b) => s.width == 1 && a.width == bits && b.width == bits,
             Cell::Cat(a, b) => a.width + b.width == bits,
-            Cell::Slice(a, high, low) => {
-                low <= high && high < a.width && high + 1 == low + bits
-            }
+            Cell::Slice(a, high, low) => { low <= high && high < a.width && high + 1 == low + bits }
         }
 }
 

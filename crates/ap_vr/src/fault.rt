@@ -2,6 +2,8 @@ ghost use Rattle.std.specs.Prelude.{◌≡◌};
 ghost use Rattle.ap_vr.specs.Kinds.{code_of, number_of};
 ghost use Rattle.ap_vr.specs.declared.fault.NetFault.TheVariants as fault;
 
+use std::alloc::AllocFailed;
+
 /// The most bytes that a netlist's text may have.
 pub const TEXT_LIMIT: usize = 67_108_864;
 
@@ -76,6 +78,14 @@ impl From<ap_bits::NoMemory> for NetFault {
     ghost from_gives = { λ _ given. given ≡ fault.NoMemory };
 
     fn from(_: ap_bits::NoMemory) -> NetFault {
+        NetFault::NoMemory
+    }
+}
+
+impl<T: Drop> From<AllocFailed<T>> for NetFault {
+    ghost from_gives = { λ _ given. given ≡ fault.NoMemory };
+
+    fn from(_: AllocFailed<T>) -> NetFault {
         NetFault::NoMemory
     }
 }

@@ -2,7 +2,8 @@
 ghost use Rattle.std.specs.Prelude.{◌≡◌, drop, IfErr, IfOk, option_and_then};
 ghost use Rattle.ap_vr.specs.Answers.{Answers, IsUnread};
 ghost use Rattle.ap_vr.specs.LineForms as forms;
-ghost use Rattle.ap_vr.specs.LineTexts.{IsSpelled};
+ghost use Rattle.ap_vr.specs.LineTexts.{IsAssign, IsConnection, IsDeclared, IsInstance, IsLine, IsNext, IsRight, IsSpelled};
+ghost use Rattle.std.specs.List.{AllByRecursion as Each};
 ghost use Rattle.ap_vr.specs.Pieces.{texts};
 
 use crate::line::{Connection, Line, NamedAssign, NamedInstance, NamedNext, Right};
@@ -21,7 +22,8 @@ use std::alloc::Global;
 /// A right side with this sign between its operands.
 #[tactic(auto, unfolding(crate::specs::LineForms::joined_in))]
 fn joined(alloc: Global, sign: &[u8], pieces: &[&[u8]]) -> Result<Right, Unread>
-    ensures { Answers result (forms.joined_in sign.now (texts pieces.now)) }
+    ensures found { Answers result (forms.joined_in sign.now (texts pieces.now)) }
+    ensures rules { IfOk result IsRight }
 {
     if is(sign, "?") {
         let s = operand_at(alloc, pieces, 0)?;
@@ -43,7 +45,8 @@ fn joined(alloc: Global, sign: &[u8], pieces: &[&[u8]]) -> Result<Right, Unread>
 /// A right side whose second piece is this one.
 #[tactic(auto, unfolding(crate::specs::LineForms::plain_right_in))]
 fn plain_right(alloc: Global, second: &[u8], pieces: &[&[u8]]) -> Result<Right, Unread>
-    ensures { Answers result (forms.plain_right_in second.now (texts pieces.now)) }
+    ensures found { Answers result (forms.plain_right_in second.now (texts pieces.now)) }
+    ensures rules { IfOk result IsRight }
 {
     if is(second, ";") {
         let a = operand_at(alloc, pieces, 0)?;
@@ -67,7 +70,8 @@ fn plain_right(alloc: Global, second: &[u8], pieces: &[&[u8]]) -> Result<Right, 
 /// A right side whose first piece is this one.
 #[tactic(auto, unfolding(crate::specs::LineForms::right_by))]
 fn right_by(alloc: Global, first: &[u8], pieces: &[&[u8]]) -> Result<Right, Unread>
-    ensures { Answers result (forms.right_by first.now (texts pieces.now)) }
+    ensures found { Answers result (forms.right_by first.now (texts pieces.now)) }
+    ensures rules { IfOk result IsRight }
 {
     if is(first, "~") {
         let a = operand_at(alloc, pieces, 1)?;
@@ -85,7 +89,8 @@ fn right_by(alloc: Global, first: &[u8], pieces: &[&[u8]]) -> Result<Right, Unre
 /// The right side of an assign.
 #[tactic(auto, unfolding(crate::specs::LineForms::right_in))]
 fn right(alloc: Global, pieces: &[&[u8]]) -> Result<Right, Unread>
-    ensures { Answers result (forms.right_in (texts pieces.now)) }
+    ensures found { Answers result (forms.right_in (texts pieces.now)) }
+    ensures rules { IfOk result IsRight }
 {
     let first = piece(pieces, 0)?;
     right_by(alloc, first, pieces)
@@ -93,7 +98,8 @@ fn right(alloc: Global, pieces: &[&[u8]]) -> Result<Right, Unread>
 
 /// A connection.
 fn join(alloc: Global, port: &[u8], net: &[u8]) -> Result<Connection, Unread>
-    ensures { Answers result (forms.join_in port.now net.now) }
+    ensures found { Answers result (forms.join_in port.now net.now) }
+    ensures rules { IfOk result IsConnection }
 {
     let port = name_in(alloc, port)?;
     let net = operand_in(alloc, net)?;
@@ -102,7 +108,8 @@ fn join(alloc: Global, port: &[u8], net: &[u8]) -> Result<Connection, Unread>
 
 /// The connections of an instance.
 fn connections(alloc: Global, pieces: &[&[u8]]) -> Result<Items<Connection>, Unread>
-    ensures { Answers result (forms.connections_in (texts pieces.now)) }
+    ensures found { Answers result (forms.connections_in (texts pieces.now)) }
+    ensures rules { IfOk result (Each IsConnection) }
 {
     let mut connections = Items::new(alloc);
     let mut rest = pieces;
@@ -116,7 +123,8 @@ fn connections(alloc: Global, pieces: &[&[u8]]) -> Result<Items<Connection>, Unr
 /// A wire or a register.
 #[tactic(auto, unfolding(crate::specs::LineForms::declared_in))]
 fn declared(alloc: Global, pieces: &[&[u8]]) -> Result<Net, Unread>
-    ensures { Answers result (forms.declared_in (texts pieces.now)) }
+    ensures found { Answers result (forms.declared_in (texts pieces.now)) }
+    ensures rules { IfOk result IsDeclared }
 {
     let name = name_at(alloc, pieces, 10)?;
     let width = high_at(pieces, 5)?;
@@ -126,7 +134,8 @@ fn declared(alloc: Global, pieces: &[&[u8]]) -> Result<Net, Unread>
 /// A port.
 #[tactic(auto, unfolding(crate::specs::LineForms::port_in))]
 fn port(alloc: Global, output: bool, pieces: &[&[u8]]) -> Result<Line, Unread>
-    ensures { Answers result (forms.port_in output (texts pieces.now)) }
+    ensures found { Answers result (forms.port_in output (texts pieces.now)) }
+    ensures rules { IfOk result IsLine }
 {
     let name = name_at(alloc, pieces, 10)?;
     let width = high_at(pieces, 5)?;
@@ -142,7 +151,8 @@ fn port(alloc: Global, output: bool, pieces: &[&[u8]]) -> Result<Line, Unread>
 /// The clock, the reset, or an input, by the piece after the direction.
 #[tactic(auto, unfolding(crate::specs::LineForms::input_by))]
 fn input_by(alloc: Global, word: &[u8], pieces: &[&[u8]]) -> Result<Line, Unread>
-    ensures { Answers result (forms.input_by word.now (texts pieces.now)) }
+    ensures found { Answers result (forms.input_by word.now (texts pieces.now)) }
+    ensures rules { IfOk result IsLine }
 {
     if is(word, "clk") {
         return Ok(Line::Clock);
@@ -156,7 +166,8 @@ fn input_by(alloc: Global, word: &[u8], pieces: &[&[u8]]) -> Result<Line, Unread
 /// The clock, the reset, or an input.
 #[tactic(auto, unfolding(crate::specs::LineForms::input_in))]
 fn input(alloc: Global, pieces: &[&[u8]]) -> Result<Line, Unread>
-    ensures { Answers result (forms.input_in (texts pieces.now)) }
+    ensures found { Answers result (forms.input_in (texts pieces.now)) }
+    ensures rules { IfOk result IsLine }
 {
     let word = piece(pieces, 4)?;
     input_by(alloc, word, pieces)
@@ -172,7 +183,8 @@ fn after<'a, 'b>(pieces: &'b [&'a [u8]], place: usize) -> &'b [&'a [u8]]
 /// An assign.
 #[tactic(auto, unfolding(crate::specs::LineForms::assign_in))]
 fn assign(alloc: Global, pieces: &[&[u8]]) -> Result<NamedAssign, Unread>
-    ensures { Answers result (forms.assign_in (texts pieces.now)) }
+    ensures found { Answers result (forms.assign_in (texts pieces.now)) }
+    ensures rules { IfOk result IsAssign }
 {
     let to = name_at(alloc, pieces, 4)?;
     let right = right(alloc, after(pieces, 8))?;
@@ -182,7 +194,8 @@ fn assign(alloc: Global, pieces: &[&[u8]]) -> Result<NamedAssign, Unread>
 /// What drives a register.
 #[tactic(auto, unfolding(crate::specs::LineForms::next_in))]
 fn next(alloc: Global, pieces: &[&[u8]]) -> Result<NamedNext, Unread>
-    ensures { Answers result (forms.next_in (texts pieces.now)) }
+    ensures found { Answers result (forms.next_in (texts pieces.now)) }
+    ensures rules { IfOk result IsNext }
 {
     let register = name_at(alloc, pieces, 17)?;
     let width = width_at(pieces, 22)?;
@@ -199,7 +212,8 @@ fn next(alloc: Global, pieces: &[&[u8]]) -> Result<NamedNext, Unread>
 /// An instance.
 #[tactic(auto, unfolding(crate::specs::LineForms::instance_in))]
 fn instance(alloc: Global, pieces: &[&[u8]]) -> Result<NamedInstance, Unread>
-    ensures { Answers result (forms.instance_in (texts pieces.now)) }
+    ensures found { Answers result (forms.instance_in (texts pieces.now)) }
+    ensures rules { IfOk result IsInstance }
 {
     let module = name_at(alloc, pieces, 2)?;
     let name = name_at(alloc, pieces, 4)?;
@@ -214,7 +228,8 @@ fn instance(alloc: Global, pieces: &[&[u8]]) -> Result<NamedInstance, Unread>
 /// A line within a module, by its first word.
 #[tactic(auto, unfolding(crate::specs::LineForms::inner_line_in))]
 fn inner_line(alloc: Global, word: &[u8], pieces: &[&[u8]]) -> Result<Line, Unread>
-    ensures { Answers result (forms.inner_line_in word.now (texts pieces.now)) }
+    ensures found { Answers result (forms.inner_line_in word.now (texts pieces.now)) }
+    ensures rules { IfOk result IsLine }
 {
     if is(word, "input") {
         return input(alloc, pieces);
@@ -240,7 +255,8 @@ fn inner_line(alloc: Global, word: &[u8], pieces: &[&[u8]]) -> Result<Line, Unre
 /// A line by its first piece.
 #[tactic(auto, unfolding(crate::specs::LineForms::line_by))]
 fn line_by(alloc: Global, first: &[u8], pieces: &[&[u8]]) -> Result<Line, Unread>
-    ensures { Answers result (forms.line_by first.now (texts pieces.now)) }
+    ensures found { Answers result (forms.line_by first.now (texts pieces.now)) }
+    ensures rules { IfOk result IsLine }
 {
     if is(first, "module") {
         return Ok(Line::Module(name_at(alloc, pieces, 2)?));
@@ -258,7 +274,8 @@ fn line_by(alloc: Global, first: &[u8], pieces: &[&[u8]]) -> Result<Line, Unread
 /// The line that pieces give.
 #[tactic(auto, unfolding(crate::specs::LineForms::line_in))]
 fn line_of(alloc: Global, pieces: &[&[u8]]) -> Result<Line, Unread>
-    ensures { Answers result (forms.line_in (texts pieces.now)) }
+    ensures found { Answers result (forms.line_in (texts pieces.now)) }
+    ensures rules { IfOk result IsLine }
 {
     let first = piece(pieces, 0)?;
     line_by(alloc, first, pieces)

@@ -140,11 +140,7 @@ fn always_string(alloc: Global, next: &NamedNext) -> Result<String, NoMemory>
 }
 
 /// Appends a connection.
-fn put_connection(
-    alloc: Global,
-    connection: &Connection,
-    out: &mut String,
-) -> Result<(), NoMemory>
+fn put_connection(alloc: Global, connection: &Connection, out: &mut String) -> Result<(), NoMemory>
     ensures { OnOk result (string_bytes out.new
         ≡ string_bytes out.old ++ joined_text connection.now) }
 {

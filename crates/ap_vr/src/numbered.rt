@@ -34,6 +34,7 @@ pub(crate) struct Drivers {
     pub(crate) instances: Vec<Instance>,
 }
 
+#[derive(Drop)]
 struct Nets<'a> {
     names: Names<'a>,
     widths: Vec<u32>,
@@ -151,7 +152,7 @@ fn widths(alloc: Global, module: &NamedModule) -> Result<Vec<u32>, NoMemory> {
 }
 
 /// What drives the nets of a module without unknown or repeated names, where these are the modules before it.
-pub(crate) fn drivers(
+pub(crate) fn drivers_of(
     alloc: Global,
     known: &Names,
     modules: &[NamedModule],

@@ -76,13 +76,7 @@ impl Part {
             Line::Module(_) => Part::Clock,
             Line::Clock => Part::Reset,
             Line::Reset => Part::Ports,
-            Line::Port { more, .. } => {
-                if *more {
-                    Part::Ports
-                } else {
-                    Part::Close
-                }
-            }
+            Line::Port { more, .. } => { if *more { Part::Ports } else { Part::Close } }
             Line::Close | Line::Wire(_) => Part::Wires,
             Line::Reg(_) => Part::Regs,
             Line::Assign(_) => Part::Assigns,

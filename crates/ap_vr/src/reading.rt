@@ -1,4 +1,13 @@
 //! Reads the modules of a text, line by line.
+ghost use Rattle.std.specs.Prelude.{◌≡◌, ◌≢◌, ◌+◌, ◌<◌, ◌≤◌, IfErr, IfOk, length};
+ghost use Rattle.ap_net.specs.Names.{IsNetName};
+ghost use Rattle.ap_vr.specs.declared.fault.NetFault.TheVariants as fault;
+ghost use Rattle.ap_vr.specs.declared.fault.NetKind.TheVariants as kind;
+ghost use Rattle.ap_vr.specs.declared.line.Line.TheVariants as said;
+ghost use Rattle.ap_vr.specs.Places.{start};
+ghost use Rattle.ap_vr.specs.Reading.{AreModulesOf, HasRoom, IsBadRead, IsModuleRead, IsNoModule, IsNoNext, TakesLine, place_in};
+ghost use Rattle.ap_vr.specs.TextLines.{first_len};
+
 use crate::fault::{NetFault, NetKind, at};
 use crate::line::Line;
 use crate::line_reading::read_line;
@@ -9,36 +18,48 @@ use ap_net::name::NetName;
 use std::alloc::Global;
 
 /// What is left of a text, and the number of its next line.
-struct Lines<'a> {
+#[derive(Drop)]
+pub(crate) struct Lines<'a> {
     rest: &'a [u8],
     number: u32,
 }
 
 /// A line that isn't of the form due.
-fn bad(line: u32) -> NetFault {
+fn bad(line: u32) -> NetFault
+    ensures { result ≡ fault.At line kind.BadForm }
+{
     at(line, NetKind::BadForm)
 }
 
-/// The bytes of the first line, with the line feed that ends it.
-fn line_len(rest: &[u8]) -> usize {
-    match rest.iter().position(|byte| *byte == b'\n') {
-        Some(place) => place + 1,
-        None => rest.len(),
+/// How many bytes the first line has, with the line feed that ends it.
+fn line_len(rest: &[u8]) -> usize
+    ensures { result ≡ first_len rest.now }
+{
+    for (place, byte) in rest.iter().enumerate() {
+        if *byte == b'\n' {
+            return place + 1;
+        }
     }
+    rest.len()
 }
 
 impl Lines<'_> {
     /// Reads the next line.
-    fn next(&mut self, alloc: Global) -> Result<Line, NetFault> {
+    fn next(&mut self, alloc: Global) -> Result<Line, NetFault>
+        requires { HasRoom self.old }
+        ensures ok { IfOk result (λ line. TakesLine self.old line self.new) }
+        ensures err { IfErr result (IsNoNext self.old) }
+    {
         let (bytes, rest) = self.rest.split_at(line_len(self.rest));
-        let line = match read_line(alloc, bytes) {
-            Ok(line) => line,
-            Err(Unread::NoForm) => return Err(bad(self.number)),
-            Err(Unread::NoMemory) => return Err(NetFault::NoMemory),
-        };
-        self.rest = rest;
-        self.number += 1;
-        Ok(line)
+        match read_line(alloc, bytes) {
+            Ok(line) => {
+                self.rest = rest;
+                self.number += 1;
+                Ok(line)
+            }
+            Err(Unread::NoForm) => Err(bad(self.number)),
+            Err(Unread::NoMemory) => Err(NetFault::NoMemory),
+        }
     }
 }
 
@@ -48,7 +69,13 @@ fn read_module(
     lines: &mut Lines,
     first: u32,
     name: NetName,
-) -> Result<NamedModule, NetFault> {
+) -> Result<NamedModule, NetFault>
+    requires room { HasRoom lines.old }
+    requires first { first + 1 ≡ lines.old.number }
+    requires name { IsNetName name }
+    ensures ok { IfOk result (λ m. IsModuleRead first name lines.old m lines.new) }
+    ensures err { IfErr result (IsBadRead (place_in first name lines.old) lines.old.rest.now) }
+{
     let top = name.as_str() == "top";
     let mut module = NamedModule::begin(alloc, first, name);
     let mut part = Part::Clock;
@@ -65,7 +92,11 @@ fn read_module(
 }
 
 /// The name in the first line of a module.
-fn module_name(lines: &mut Lines, alloc: Global) -> Result<NetName, NetFault> {
+fn module_name(lines: &mut Lines, alloc: Global) -> Result<NetName, NetFault>
+    requires { HasRoom lines.old }
+    ensures ok { IfOk result (λ name. TakesLine lines.old (said.Module name) lines.new) }
+    ensures err { IfErr result (IsNoModule lines.old) }
+{
     let number = lines.number;
     match lines.next(alloc)? {
         Line::Module(name) => Ok(name),
@@ -74,7 +105,11 @@ fn module_name(lines: &mut Lines, alloc: Global) -> Result<NetName, NetFault> {
 }
 
 /// The modules of a text that isn't too long.
-pub(crate) fn read_modules(alloc: Global, text: &[u8]) -> Result<Vec<NamedModule>, NetFault> {
+pub(crate) fn read_modules(alloc: Global, text: &[u8]) -> Result<Vec<NamedModule>, NetFault>
+    requires { length text.now ≤ 67108864 }
+    ensures ok { IfOk result (λ modules. AreModulesOf text.now modules.items) }
+    ensures err { IfErr result (IsBadRead start text.now) }
+{
     let mut modules = Vec::new(alloc);
     let mut lines = Lines {
         rest: text,

@@ -1,12 +1,14 @@
 //! What single pieces of a line give.
-ghost use Rattle.std.specs.Prelude.{◌≡◌, slice_get};
+ghost use Rattle.std.specs.Prelude.{◌≡◌, slice_get, IfOk};
 ghost use Rattle.std.specs.Str.{bytes_eq};
 ghost use Rattle.std.specs.List.{list_all, list_any};
 ghost use Rattle.ap_bits.specs.Names as plain;
 ghost use Rattle.ap_net.specs.Names as names;
 ghost use Rattle.ap_text.specs.Numbers.{number_value};
 ghost use Rattle.ap_vr.specs.Answers.{Answers, SurelyAnswers, IsPiece};
+ghost use Rattle.ap_net.specs.Names.{IsNetName};
 ghost use Rattle.ap_vr.specs.LineForms as forms;
+ghost use Rattle.ap_vr.specs.LineTexts.{IsOperand, IsWidth};
 ghost use Rattle.ap_vr.specs.Pieces.{texts};
 
 use crate::piece::is_name_byte;
@@ -78,7 +80,8 @@ fn is_net_name(piece: &[u8]) -> bool
 /// The name that a piece is.
 #[tactic(auto, unfolding(crate::specs::LineForms::name_in))]
 pub(crate) fn name_in(alloc: Global, piece: &[u8]) -> Result<NetName, Unread>
-    ensures { Answers result (forms.name_in piece.now) }
+    ensures found { Answers result (forms.name_in piece.now) }
+    ensures rules { IfOk result IsNetName }
 {
     if !is_net_name(piece) {
         return Err(Unread::NoForm);
@@ -89,7 +92,8 @@ pub(crate) fn name_in(alloc: Global, piece: &[u8]) -> Result<NetName, Unread>
 /// The name that a piece is, where it may be read or connected: `clk` and `rst` may not.
 #[tactic(auto, unfolding(crate::specs::LineForms::operand_in))]
 pub(crate) fn operand_in(alloc: Global, piece: &[u8]) -> Result<NetName, Unread>
-    ensures { Answers result (forms.operand_in piece.now) }
+    ensures found { Answers result (forms.operand_in piece.now) }
+    ensures rules { IfOk result IsOperand }
 {
     if is(piece, "clk") || is(piece, "rst") {
         return Err(Unread::NoForm);
@@ -130,7 +134,8 @@ pub(crate) fn piece<'a>(pieces: &[&'a [u8]], place: usize) -> Result<&'a [u8], U
 
 /// The name in this place.
 pub(crate) fn name_at(alloc: Global, pieces: &[&[u8]], place: usize) -> Result<NetName, Unread>
-    ensures { Answers result (forms.name_at (texts pieces.now) place) }
+    ensures found { Answers result (forms.name_at (texts pieces.now) place) }
+    ensures rules { IfOk result IsNetName }
 {
     let piece = piece(pieces, place)?;
     name_in(alloc, piece)
@@ -138,7 +143,8 @@ pub(crate) fn name_at(alloc: Global, pieces: &[&[u8]], place: usize) -> Result<N
 
 /// The operand in this place.
 pub(crate) fn operand_at(alloc: Global, pieces: &[&[u8]], place: usize) -> Result<NetName, Unread>
-    ensures { Answers result (forms.operand_at (texts pieces.now) place) }
+    ensures found { Answers result (forms.operand_at (texts pieces.now) place) }
+    ensures rules { IfOk result IsOperand }
 {
     let piece = piece(pieces, place)?;
     operand_in(alloc, piece)
@@ -154,7 +160,8 @@ pub(crate) fn number_at(pieces: &[&[u8]], place: usize) -> Result<u64, Unread>
 
 /// The width in this place.
 pub(crate) fn width_at(pieces: &[&[u8]], place: usize) -> Result<u32, Unread>
-    ensures { SurelyAnswers result (forms.width_at (texts pieces.now) place) }
+    ensures found { SurelyAnswers result (forms.width_at (texts pieces.now) place) }
+    ensures rules { IfOk result IsWidth }
 {
     let width = number_at(pieces, place)?;
     if width < 1 || width > 64 {
@@ -165,7 +172,8 @@ pub(crate) fn width_at(pieces: &[&[u8]], place: usize) -> Result<u32, Unread>
 
 /// The width of bits whose first is in this place.
 pub(crate) fn high_at(pieces: &[&[u8]], place: usize) -> Result<u32, Unread>
-    ensures { SurelyAnswers result (forms.high_at (texts pieces.now) place) }
+    ensures found { SurelyAnswers result (forms.high_at (texts pieces.now) place) }
+    ensures rules { IfOk result IsWidth }
 {
     let high = number_at(pieces, place)?;
     if high >= 64 {

@@ -1,0 +1,81 @@
+//! The small text, and how its changes are read.
+use ap_vr::{NetFault, read_back};
+use std::alloc::Global;
+use std::process::Abort;
+use std::test::Fail;
+
+/// A processor of one register that counts, and shows the word that it fetches; 23 lines.
+pub(crate) fn small() -> &'static str {
+    "module top (
+  input clk,
+  input rst,
+  output [3:0] iaddr,
+  input [7:0] idata,
+  input [0:0] mwait,
+  output [0:0] stall,
+  output [0:0] kill,
+  output [0:0] w_R_e,
+  output [7:0] w_R_v
+);
+  wire [3:0] n0;
+  wire [3:0] n1;
+  reg [3:0] pc;
+  assign n0 = 4'd1;
+  assign n1 = pc + n0;
+  assign iaddr = pc;
+  assign stall = 1'd0;
+  assign kill = 1'd0;
+  assign w_R_e = 1'd1;
+  assign w_R_v = idata;
+  always @(posedge clk) if (rst) pc <= 4'd0; else pc <= n1;
+endmodule
+"
+}
+
+/// A module of one gate that stands before the small text, five lines to its ports' end.
+pub(crate) fn gate() -> &'static str {
+    "module gate (
+  input clk,
+  input rst,
+  input [3:0] a,
+  output [3:0] y
+);
+  assign y = ~a;
+endmodule
+"
+}
+
+/// The code and the line of a text's fault, as `V1 BadForm` and 16, and none where it is read.
+pub(crate) fn fault_of(alloc: Global, text: &[u8]) -> Result<Option<(&'static str, u32)>, Fail> {
+    match read_back(alloc, text) {
+        Ok(_) => Ok(None),
+        Err(NetFault::At { line, kind }) => Ok(Some((kind.code(), line))),
+        Err(NetFault::NoMemory) => Err("no memory")?,
+    }
+}
+
+/// Checks the fault of a text: its kind by its first two letters, and its line.
+pub(crate) fn expect(
+    rt: &impl Abort,
+    alloc: Global,
+    text: &[u8],
+    due: Option<(&str, u32)>,
+    at: &str,
+) -> Result<(), Fail> {
+    match (fault_of(alloc, text)?, due) {
+        (None, None) => Ok(()),
+        (Some((code, line)), Some((kind, number))) => {
+            assert_eq!(rt; &code[..2], kind, "at {at}");
+            assert_eq!(rt; line, number, "at {at}");
+            Ok(())
+        }
+        (Some((code, line)), None) => {
+            assert_eq!(rt; code, "none", "at {at}, line {line}");
+            Ok(())
+        }
+        (None, Some((kind, _))) => {
+            assert_eq!(rt; "none", kind, "at {at}");
+            Ok(())
+        }
+    }
+}
