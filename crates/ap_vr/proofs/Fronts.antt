@@ -108,40 +108,43 @@ more_text f front xs x = ap (λ t. front ++ t) (flat_map-append f xs (x ∷ []) 
 abbrev pub body_of : List Net → List Net → List NamedAssign → List NamedNext → List NamedInstance → List ℕ
 body_of ws rs ds xs is = flat_map wire_line ws ++ flat_map register_line rs ++ flat_map named_assign_line ds ++ flat_map named_always_line xs ++ flat_map named_instance_line is
 
+nil_four : (a : List ℕ) → a ++ [] ++ [] ++ [] ++ [] ≡ a
+nil_four a = simp append-nil
+
+nil_three : (a : List ℕ) → a ++ [] ++ [] ++ [] ≡ a
+nil_three a = simp append-nil
+
+nil_two : (a : List ℕ) → a ++ [] ++ [] ≡ a
+nil_two a = simp append-nil
+
 pub wire_more : (ws : List Net) (n : Net) → body_of (ws ++ n ∷ []) [] [] [] [] ≡ body_of ws [] [] [] [] ++ wire_line n
-wire_more ws n = append-nil (flat_map wire_line (ws ++ n ∷ [])) ∙ more_text wire_line [] ws n ∙ ap (λ t. t ++ wire_line n) (sym (append-nil (flat_map wire_line ws)))
+wire_more ws n = nil_four (flat_map wire_line (ws ++ n ∷ [])) ∙ more_text wire_line [] ws n ∙ ap (λ t. t ++ wire_line n) (sym (nil_four (flat_map wire_line ws)))
 
 pub reg_more : (ws rs : List Net) (n : Net) → body_of ws (rs ++ n ∷ []) [] [] [] ≡ body_of ws rs [] [] [] ++ register_line n
 reg_more ws rs n =
-    ap (λ t. flat_map wire_line ws ++ t) (append-nil (flat_map register_line (rs ++ n ∷ [])))
+    nil_three (flat_map wire_line ws ++ flat_map register_line (rs ++ n ∷ []))
     ∙ more_text register_line (flat_map wire_line ws) rs n
-    ∙ ap (λ t. (flat_map wire_line ws ++ t) ++ register_line n) (sym (append-nil (flat_map register_line rs)))
+    ∙ ap (λ t. t ++ register_line n) (sym (nil_three (flat_map wire_line ws ++ flat_map register_line rs)))
 
 pub assign_more : (ws rs : List Net) (ds : List NamedAssign) (a : NamedAssign) → body_of ws rs (ds ++ a ∷ []) [] [] ≡ body_of ws rs ds [] [] ++ named_assign_line a
 assign_more ws rs ds a =
-    ap (λ t. flat_map wire_line ws ++ flat_map register_line rs ++ t) (append-nil (flat_map named_assign_line (ds ++ a ∷ [])))
-    ∙ ap (λ t. flat_map wire_line ws ++ t) (more_text named_assign_line (flat_map register_line rs) ds a)
-    ∙ sym (append_assoc (flat_map wire_line ws) (flat_map register_line rs ++ flat_map named_assign_line ds) (named_assign_line a))
-    ∙ ap (λ t. (flat_map wire_line ws ++ flat_map register_line rs ++ t) ++ named_assign_line a) (sym (append-nil (flat_map named_assign_line ds)))
+    nil_two (flat_map wire_line ws ++ flat_map register_line rs ++ flat_map named_assign_line (ds ++ a ∷ []))
+    ∙ more_text named_assign_line (flat_map wire_line ws ++ flat_map register_line rs) ds a
+    ∙ ap (λ t. t ++ named_assign_line a) (sym (nil_two (flat_map wire_line ws ++ flat_map register_line rs ++ flat_map named_assign_line ds)))
 
 pub next_more : (ws rs : List Net) (ds : List NamedAssign) (xs : List NamedNext) (x : NamedNext) → body_of ws rs ds (xs ++ x ∷ []) [] ≡ body_of ws rs ds xs [] ++ named_always_line x
 next_more ws rs ds xs x =
-    ap (λ t. flat_map wire_line ws ++ flat_map register_line rs ++ flat_map named_assign_line ds ++ t) (append-nil (flat_map named_always_line (xs ++ x ∷ [])))
-    ∙ ap (λ t. flat_map wire_line ws ++ flat_map register_line rs ++ t) (more_text named_always_line (flat_map named_assign_line ds) xs x)
-    ∙ ap (λ t. flat_map wire_line ws ++ t) (sym (append_assoc (flat_map register_line rs) (flat_map named_assign_line ds ++ flat_map named_always_line xs) (named_always_line x)))
-    ∙ sym (append_assoc (flat_map wire_line ws) (flat_map register_line rs ++ flat_map named_assign_line ds ++ flat_map named_always_line xs) (named_always_line x))
-    ∙ ap (λ t. (flat_map wire_line ws ++ flat_map register_line rs ++ flat_map named_assign_line ds ++ t) ++ named_always_line x) (sym (append-nil (flat_map named_always_line xs)))
+    append-nil (flat_map wire_line ws ++ flat_map register_line rs ++ flat_map named_assign_line ds ++ flat_map named_always_line (xs ++ x ∷ []))
+    ∙ more_text named_always_line (flat_map wire_line ws ++ flat_map register_line rs ++ flat_map named_assign_line ds) xs x
+    ∙ ap (λ t. t ++ named_always_line x) (sym (append-nil (flat_map wire_line ws ++ flat_map register_line rs ++ flat_map named_assign_line ds ++ flat_map named_always_line xs)))
 
 pub instance_more : (ws rs : List Net) (ds : List NamedAssign) (xs : List NamedNext) (is : List NamedInstance) (i : NamedInstance) → body_of ws rs ds xs (is ++ i ∷ []) ≡ body_of ws rs ds xs is ++ named_instance_line i
 instance_more ws rs ds xs is i =
-    ap (λ t. flat_map wire_line ws ++ flat_map register_line rs ++ flat_map named_assign_line ds ++ t) (more_text named_instance_line (flat_map named_always_line xs) is i)
-    ∙ ap (λ t. flat_map wire_line ws ++ flat_map register_line rs ++ t) (sym (append_assoc (flat_map named_assign_line ds) (flat_map named_always_line xs ++ flat_map named_instance_line is) (named_instance_line i)))
-    ∙ ap (λ t. flat_map wire_line ws ++ t) (sym (append_assoc (flat_map register_line rs) (flat_map named_assign_line ds ++ flat_map named_always_line xs ++ flat_map named_instance_line is) (named_instance_line i)))
-    ∙ sym (append_assoc (flat_map wire_line ws) (flat_map register_line rs ++ flat_map named_assign_line ds ++ flat_map named_always_line xs ++ flat_map named_instance_line is) (named_instance_line i))
+    more_text named_instance_line (flat_map wire_line ws ++ flat_map register_line rs ++ flat_map named_assign_line ds ++ flat_map named_always_line xs) is i
 
 -- a body that grows at its end
-pub body_grows : (head body more line : List ℕ) → more ≡ body ++ line → head ++ codes "\n);\n" ++ more ≡ (head ++ codes "\n);\n" ++ body) ++ line
-body_grows head body more line h = ap (λ t. head ++ codes "\n);\n" ++ t) h ∙ sym (append_assoc head (codes "\n);\n" ++ body) line)
+pub body_grows : (head body more line : List ℕ) → more ≡ body ++ line → head ++ codes "\n);\n" ++ more ≡ head ++ codes "\n);\n" ++ body ++ line
+body_grows head body more line h = ap (λ t. head ++ codes "\n);\n" ++ t) h ∙ sym (append_assoc (head ++ codes "\n);\n") body line)
 
 -- what a module keeps of its lines so far, where this is due
 pub record IsFront (at : Part) (top : Bool) (m : NamedModule) : Type 0 where

@@ -19,6 +19,7 @@ use Rattle.ap_vr.specs.LineTexts.{IsLine, IsPort, IsDeclared, IsAssign, IsNext, 
 use Rattle.ap_vr.specs.Named.{grown, named_head, named_body, named_module_text}
 use Rattle.ap_vr.specs.Places.{number, is_due, part_after}
 use Rattle.ap_vr.specs.Reading.{first_line}
+use Rattle.ap_vr.proofs.Regroup.{in_four}
 use Rattle.ap_vr.proofs.Fronts.{IsFront, body_front, body_grows, front_text, more_text, at_clock, at_reset, at_ports, at_close, at_body, body_of, wire_more, reg_more, assign_more, next_more, instance_more}
 
 -- one more of what is the same for each
@@ -31,38 +32,38 @@ between : (n low high : ℕ) → (nat_le low n && nat_le n high) ≡ true → (l
 between n low high h = let both = and_parts (nat_le low n) (nat_le n high) h in (leb-true low n both.0, leb-true n high both.1)
 
 -- the head of a module whose ports don't stand there yet
-bare_head : (name : List ℕ) → (codes "module " ++ name ++ codes " (\n  input clk,\n  input rst") ++ codes ",\n" ≡ ((codes "module " ++ name ++ codes " (\n") ++ codes "  input clk,\n") ++ codes "  input rst,\n"
+bare_head : (name : List ℕ) → codes "module " ++ name ++ codes " (\n  input clk,\n  input rst" ++ codes ",\n" ≡ codes "module " ++ name ++ codes " (\n" ++ codes "  input clk,\n" ++ codes "  input rst,\n"
 bare_head name = ap (λ t. codes "module " ++ t) (append_assoc name (codes " (\n  input clk,\n  input rst") (codes ",\n")
-    ∙ sym (ap (λ t. t ++ codes "  input rst,\n") (append_assoc name (codes " (\n") (codes "  input clk,\n")) ∙ append_assoc name (codes " (\n  input clk,\n") (codes "  input rst,\n")))
+    ∙ sym (in_four name (codes " (\n") (codes "  input clk,\n") (codes "  input rst,\n")))
 
 -- one more port
 head_more : (m : NamedModule) (p : Port) (more : Bool) → named_head (grown m (line.Port p more)) ≡ named_head m ++ port_text p
-head_more m p more =
-    ap (λ t. codes "module " ++ m.name ++ t) (more_text port_text (codes " (\n  input clk,\n  input rst") m.ports p)
-    ∙ ap (λ t. codes "module " ++ t) (sym (append_assoc m.name (codes " (\n  input clk,\n  input rst" ++ flat_map port_text m.ports) (port_text p)))
-
-port_lead : (p : Port) (more : Bool) → port_text p ++ (if more then codes ",\n" else codes "\n") ≡ codes ",\n" ++ port_line p more
-port_lead p more = by_case p.output (if more then codes ",\n" else codes "\n") where
-  by_case : (output : Bool) (end : List ℕ) → ((if output then codes ",\n  output " else codes ",\n  input ") ++ range_text p.width ++ codes " " ++ p.name) ++ end ≡ codes ",\n" ++ (if output then codes "  output " else codes "  input ") ++ range_text p.width ++ codes " " ++ p.name ++ end
-  by_case true end = ap (λ t. codes ",\n  output " ++ t) (append_assoc (range_text p.width) (32 ∷ p.name) end)
-  by_case false end = ap (λ t. codes ",\n  input " ++ t) (append_assoc (range_text p.width) (32 ∷ p.name) end)
+head_more m p more = more_text port_text (codes "module " ++ m.name ++ codes " (\n  input clk,\n  input rst") m.ports p
 
 abbrev port_end : Bool → List ℕ
 port_end more = if more then codes ",\n" else codes "\n"
 
-port_step : (m : NamedModule) (p : Port) (more : Bool) → front_text (part_after (line.Port p more)) (grown m (line.Port p more)) ≡ (named_head m ++ codes ",\n") ++ line_text (line.Port p more)
+port_lead : (p : Port) (more : Bool) → port_text p ++ port_end more ≡ codes ",\n" ++ port_line p more
+port_lead p more = by_case p.output (port_end more) where
+  by_case : (output : Bool) (end : List ℕ) → (if output then codes ",\n  output " else codes ",\n  input ") ++ range_text p.width ++ codes " " ++ p.name ++ end ≡ codes ",\n" ++ ((if output then codes "  output " else codes "  input ") ++ range_text p.width ++ codes " " ++ p.name ++ end)
+  by_case true end = refl
+  by_case false end = refl
+
+port_step : (m : NamedModule) (p : Port) (more : Bool) → front_text (part_after (line.Port p more)) (grown m (line.Port p more)) ≡ named_head m ++ codes ",\n" ++ line_text (line.Port p more)
 port_step m p more =
     by_case more ∙ ap (λ t. t ++ port_end more) (head_more m p more) ∙ append_assoc (named_head m) (port_text p) (port_end more)
     ∙ ap (λ t. named_head m ++ t) (port_lead p more) ∙ sym (append_assoc (named_head m) (codes ",\n") (port_line p more)) where
-      by_case : (b : Bool) → front_text (part_after (line.Port p b)) (grown m (line.Port p b)) ≡ named_head (grown m (line.Port p b)) ++ (if b then codes ",\n" else codes "\n")
+      by_case : (b : Bool) → front_text (part_after (line.Port p b)) (grown m (line.Port p b)) ≡ named_head (grown m (line.Port p b)) ++ port_end b
       by_case true = refl
       by_case false = refl
 
 -- the end of the ports, where nothing stands after them
-close_step : (m : NamedModule) → m.wires ≡ [] → m.regs ≡ [] → m.assigns ≡ [] → m.nexts ≡ [] → m.instances ≡ [] → body_front m ≡ (named_head m ++ codes "\n") ++ codes ");\n"
-close_step m a b c d e = ap (λ t. named_head m ++ codes "\n);\n" ++ t) (none m.wires m.regs m.assigns m.nexts m.instances a b c d e) ∙ sym (append_assoc (named_head m) (codes "\n") (codes ");\n")) where
-  none : (ws rs : List Net) (ds : List NamedAssign) (xs : List NamedNext) (is : List NamedInstance) → ws ≡ [] → rs ≡ [] → ds ≡ [] → xs ≡ [] → is ≡ [] → body_of ws rs ds xs is ≡ []
-  none ws rs ds xs is a b c d e = rw (a, b, c, d, e) refl
+close_step : (m : NamedModule) → m.wires ≡ [] → m.regs ≡ [] → m.assigns ≡ [] → m.nexts ≡ [] → m.instances ≡ [] → body_front m ≡ named_head m ++ codes "\n" ++ codes ");\n"
+close_step m a b c d e =
+    ap (λ t. named_head m ++ codes "\n);\n" ++ t) (none m.wires m.regs m.assigns m.nexts m.instances a b c d e)
+    ∙ append-nil (named_head m ++ codes "\n);\n") ∙ sym (append_assoc (named_head m) (codes "\n") (codes ");\n")) where
+      none : (ws rs : List Net) (ds : List NamedAssign) (xs : List NamedNext) (is : List NamedInstance) → ws ≡ [] → rs ≡ [] → ds ≡ [] → xs ≡ [] → is ≡ [] → body_of ws rs ds xs is ≡ []
+      none ws rs ds xs is a b c d e = rw (a, b, c, d, e) refl
 
 -- one more line of the body, where nothing of a later kind stands there
 wire_step : (ws rs : List Net) (ds : List NamedAssign) (xs : List NamedNext) (is : List NamedInstance) (n : Net) → rs ≡ [] → ds ≡ [] → xs ≡ [] → is ≡ [] → body_of (ws ++ n ∷ []) rs ds xs is ≡ body_of ws rs ds xs is ++ wire_line n
@@ -84,7 +85,8 @@ text_step at top m line.Clock front inside due = ap (λ t. t ++ codes "  input c
 text_step at top m line.Reset front inside due =
     let n = eqb-true (number at) 2 due in
     let none = front.no_ports (omega (arith, n)) (omega (arith, n)) in
-    ap (λ ports. (codes "module " ++ m.name ++ codes " (\n  input clk,\n  input rst" ++ flat_map port_text ports) ++ codes ",\n") none
+    ap (λ ports. codes "module " ++ m.name ++ codes " (\n  input clk,\n  input rst" ++ flat_map port_text ports ++ codes ",\n") none
+    ∙ ap (λ t. t ++ codes ",\n") (append-nil (codes "module " ++ m.name ++ codes " (\n  input clk,\n  input rst"))
     ∙ bare_head m.name ∙ ap (λ t. t ++ codes "  input rst,\n") (sym (at_reset at m n))
 text_step at top m (line.Port p more) front inside due =
     port_step m p more ∙ ap (λ t. t ++ port_line p more) (sym (at_ports at m (eqb-true (number at) 3 due)))
@@ -117,9 +119,7 @@ text_step at top m (line.Instance i) front inside due =
     body_grows (named_head m) (named_body m) (named_body (grown m (line.Instance i))) (named_instance_line i)
     (instance_more m.wires m.regs m.assigns m.nexts m.instances i)
     ∙ ap (λ t. t ++ named_instance_line i) (sym (at_body at m k))
-text_step at top m line.End front inside due =
-    let k = leb-true 5 (number at) due in
-    sym (append_assoc (named_head m) (codes "\n);\n" ++ named_body m) (codes "endmodule\n")) ∙ ap (λ t. t ++ codes "endmodule\n") (sym (at_body at m k))
+text_step at top m line.End front inside due = ap (λ t. t ++ codes "endmodule\n") (sym (at_body at m (leb-true 5 (number at) due)))
 
 -- what the module keeps
 pub front_step : (at : Part) (top : Bool) (m : NamedModule) (x : Line) → IsFront at top m → number at ≢ 0 → is_due at top x ≡ true → IsLine x → IsFront (part_after x) top (grown m x)

@@ -1,3 +1,4 @@
+mod Regroup
 mod Pieces
 mod Words
 mod RightsRead

@@ -20,6 +20,7 @@ use Rattle.ap_vr.specs.declared.line.Line.TheVariants as line
 use Rattle.ap_vr.specs.LineForms.{beside, if_width, if_high, name_in, operand_in, digits_after, join_in, connections_in, right_in, declared_of, declared_in, port_in, input_by, input_in, assign_in, next_in, instance_in, inner_line_in, line_by, line_in}
 use Rattle.ap_vr.specs.LineTexts.{IsOperand, IsDeclared, IsPort, IsAssign, IsNext, IsConnection, IsInstance, IsLine, register_line, port_line, right_text, named_assign_line, named_always_line, joined_text, named_instance_line, line_text}
 use Rattle.ap_vr.specs.Pieces.{pieces_of, pieces_after}
+use Rattle.ap_vr.proofs.Regroup.{in_four, in_five, in_six}
 use Rattle.ap_vr.proofs.Pieces.{IsWord, word_then}
 use Rattle.ap_vr.proofs.Words.{name_word, name_read, operand_read, width_read, high_read, value_read, range_pieces, constant_pieces}
 use Rattle.ap_vr.proofs.RightsRead.{both_read, right_read}
@@ -33,7 +34,8 @@ module_read name h =
 -- a net with its bits, and what ends its line
 declared_pieces : (n : Net) (b : ℕ) (rest : List ℕ) → IsDeclared n → is_name_byte b ≡ false → pieces_of (range_text n.width ++ codes " " ++ n.name ++ b ∷ rest) ≡ (91 ∷ []) ∷ decimal (n.width - 1) ∷ (58 ∷ []) ∷ (48 ∷ []) ∷ (93 ∷ []) ∷ (32 ∷ []) ∷ n.name ∷ (b ∷ []) ∷ pieces_of rest
 declared_pieces n b rest h other =
-    range_pieces n.width (32 ∷ (n.name ++ b ∷ rest)) h.1
+    ap pieces_of (in_four (range_text n.width) (codes " ") n.name (b ∷ rest))
+    ∙ range_pieces n.width (32 ∷ (n.name ++ b ∷ rest)) h.1
     ∙ ap (λ ps. (91 ∷ []) ∷ decimal (n.width - 1) ∷ (58 ∷ []) ∷ (48 ∷ []) ∷ (93 ∷ []) ∷ (32 ∷ []) ∷ ps) (word_then n.name b rest (name_word n.name h.0) other)
 
 -- a name and a width, where both are read
@@ -71,14 +73,13 @@ port_read p more h = by_case p.output more refl where
 assign_read : (a : NamedAssign) → IsAssign a → line_in (pieces_of (named_assign_line a)) ≡ Some (line.Assign a)
 unfolding line_in line_by inner_line_in assign_in
 assign_read a h =
-    ap (λ ps. line_in ((32 ∷ []) ∷ (32 ∷ []) ∷ codes "assign" ∷ (32 ∷ []) ∷ ps)) (word_then a.to 32 (61 ∷ 32 ∷ (right_text a.right ++ codes ";\n")) (name_word a.to h.0) refl)
+    ap (λ ps. line_in ((32 ∷ []) ∷ (32 ∷ []) ∷ codes "assign" ∷ (32 ∷ []) ∷ ps)) (ap pieces_of (in_four a.to (codes " = ") (right_text a.right) (codes ";\n")) ∙ word_then a.to 32 (61 ∷ 32 ∷ (right_text a.right ++ codes ";\n")) (name_word a.to h.0) refl)
     ∙ ap (λ found. option_map (λ a. line.Assign a) (option_map (λ v. record { to = v.0; right = v.1 }) found))
     (both_read (name_in a.to) (right_in (pieces_of (right_text a.right ++ codes ";\n"))) a.to a.right (name_read a.to h.0) (right_read a.right h.1))
 
 -- what a register takes, and what follows
 taken_then : (register value rest : List ℕ) → taken_text register value ++ rest ≡ register ++ 32 ∷ 60 ∷ 61 ∷ 32 ∷ (value ++ 59 ∷ rest)
-taken_then register value rest =
-    append_assoc register (codes " <= " ++ value ++ codes ";") rest ∙ ap (λ t. register ++ 32 ∷ 60 ∷ 61 ∷ 32 ∷ t) (append_assoc value (codes ";") rest)
+taken_then register value rest = in_five register (codes " <= ") value (codes ";") rest
 
 -- the pieces of such a line before the register's name
 abbrev always_lead : List (List ℕ) → List (List ℕ)
@@ -95,8 +96,10 @@ always_read x h =
     (both_read (name_in x.register) (beside (option_and_then if_width (number_value (decimal x.width))) (beside (digits_after (100 ∷ decimal x.reset)) (operand_in x.from))) x.register (x.width, x.reset, x.from) (name_read x.register h.0)
     (both_read (option_and_then if_width (number_value (decimal x.width))) (beside (digits_after (100 ∷ decimal x.reset)) (operand_in x.from)) x.width (x.reset, x.from) (width_read x.width h.1.0)
     (both_read (digits_after (100 ∷ decimal x.reset)) (operand_in x.from) x.reset x.from (value_read x.reset h.1.1.0) (operand_read x.from h.1.1.1)))) where
-      first : taken_text x.register (reset_text x) ++ codes " else " ++ (taken_text x.register x.from ++ codes "\n") ≡ x.register ++ 32 ∷ 60 ∷ 61 ∷ 32 ∷ ((reset_text x) ++ 59 ∷ (codes " else " ++ x.register ++ 32 ∷ 60 ∷ 61 ∷ 32 ∷ (x.from ++ 59 ∷ 10 ∷ [])))
-      first = taken_then x.register (reset_text x) (codes " else " ++ (taken_text x.register x.from ++ codes "\n")) ∙ ap (λ t. x.register ++ 32 ∷ 60 ∷ 61 ∷ 32 ∷ ((reset_text x) ++ 59 ∷ (codes " else " ++ t))) (taken_then x.register x.from (codes "\n"))
+      first : taken_text x.register (reset_text x) ++ codes " else " ++ taken_text x.register x.from ++ codes "\n" ≡ x.register ++ 32 ∷ 60 ∷ 61 ∷ 32 ∷ (reset_text x ++ 59 ∷ (codes " else " ++ x.register ++ 32 ∷ 60 ∷ 61 ∷ 32 ∷ (x.from ++ 59 ∷ 10 ∷ [])))
+      first = in_four (taken_text x.register (reset_text x)) (codes " else ") (taken_text x.register x.from) (codes "\n")
+          ∙ taken_then x.register (reset_text x) (codes " else " ++ (taken_text x.register x.from ++ codes "\n"))
+          ∙ ap (λ t. x.register ++ 32 ∷ 60 ∷ 61 ∷ 32 ∷ (reset_text x ++ 59 ∷ (codes " else " ++ t))) (taken_then x.register x.from (codes "\n"))
 
       last_pieces : pieces_of (codes " else " ++ x.register ++ 32 ∷ 60 ∷ 61 ∷ 32 ∷ (x.from ++ 59 ∷ 10 ∷ [])) ≡ (32 ∷ []) ∷ codes "else" ∷ (32 ∷ []) ∷ x.register ∷ (32 ∷ []) ∷ (60 ∷ []) ∷ (61 ∷ []) ∷ (32 ∷ []) ∷ x.from ∷ (59 ∷ []) ∷ (10 ∷ []) ∷ []
       last_pieces = ap (λ ps. (32 ∷ []) ∷ codes "else" ∷ (32 ∷ []) ∷ ps) (word_then x.register 32 (60 ∷ 61 ∷ 32 ∷ (x.from ++ 59 ∷ 10 ∷ [])) (name_word x.register h.0) refl
@@ -115,11 +118,10 @@ connection_pieces (c ∷ cs) = (44 ∷ []) ∷ (32 ∷ []) ∷ (46 ∷ []) ∷ c
 joined_pieces : (cs : List Connection) → Each IsConnection cs → pieces_of (flat_map joined_text cs ++ codes ");\n") ≡ connection_pieces cs
 joined_pieces [] h = refl
 joined_pieces (c ∷ cs) h =
-    ap (λ t. (44 ∷ []) ∷ (32 ∷ []) ∷ (46 ∷ []) ∷ pieces_of t) (ap (λ t. t ++ codes ");\n") (append_assoc c.port (40 ∷ (c.net ++ codes ")")) (flat_map joined_text cs)) ∙ append_assoc c.port ((40 ∷ (c.net ++ codes ")")) ++ flat_map joined_text cs) (codes ");\n"))
-    ∙ ap (λ ps. (44 ∷ []) ∷ (32 ∷ []) ∷ (46 ∷ []) ∷ ps) (word_then c.port 40 (((c.net ++ codes ")") ++ flat_map joined_text cs) ++ codes ");\n") (name_word c.port h.0.0) refl)
-    ∙ ap (λ t. (44 ∷ []) ∷ (32 ∷ []) ∷ (46 ∷ []) ∷ c.port ∷ (40 ∷ []) ∷ pieces_of t) (ap (λ t. t ++ codes ");\n") (append_assoc c.net (codes ")") (flat_map joined_text cs)) ∙ append_assoc c.net (41 ∷ flat_map joined_text cs) (codes ");\n"))
-    ∙ ap (λ ps. (44 ∷ []) ∷ (32 ∷ []) ∷ (46 ∷ []) ∷ c.port ∷ (40 ∷ []) ∷ ps) (word_then c.net 41 (flat_map joined_text cs ++ codes ");\n") (name_word c.net h.0.1.0) refl)
-    ∙ ap (λ ps. (44 ∷ []) ∷ (32 ∷ []) ∷ (46 ∷ []) ∷ c.port ∷ (40 ∷ []) ∷ c.net ∷ (41 ∷ []) ∷ ps) (joined_pieces cs h.1)
+    ap (λ t. (44 ∷ []) ∷ (32 ∷ []) ∷ (46 ∷ []) ∷ pieces_of t) (in_six c.port (codes "(") c.net (codes ")") (flat_map joined_text cs) (codes ");\n"))
+    ∙ ap (λ ps. (44 ∷ []) ∷ (32 ∷ []) ∷ (46 ∷ []) ∷ ps) (word_then c.port 40 (c.net ++ 41 ∷ (flat_map joined_text cs ++ codes ");\n")) (name_word c.port h.0.0) refl
+    ∙ ap (λ ps. c.port ∷ (40 ∷ []) ∷ ps) (word_then c.net 41 (flat_map joined_text cs ++ codes ");\n") (name_word c.net h.0.1.0) refl
+    ∙ ap (λ ps. c.net ∷ (41 ∷ []) ∷ ps) (joined_pieces cs h.1)))
 
 joins_read : (cs : List Connection) → Each IsConnection cs → connections_in (connection_pieces cs) ≡ Some cs
 unfolding connections_in
@@ -180,7 +182,8 @@ instance_read i h =
     (both_read (name_in i.name) (connections_in (connection_pieces i.connections)) i.name i.connections (name_read i.name h.0) (joins_read i.connections h.1.1))) where
       whole : pieces_of (named_instance_line i) ≡ (instance_pieces i)
       whole =
-          ap (λ ps. (32 ∷ []) ∷ (32 ∷ []) ∷ ps) (word_then i.module 32 (i.name ++ codes " (.clk(clk), .rst(rst)" ++ instance_end i) (name_word i.module h.1.0) refl)
+          ap (λ t. (32 ∷ []) ∷ (32 ∷ []) ∷ pieces_of t) (in_six i.module (codes " ") i.name (codes " (.clk(clk), .rst(rst)") (flat_map joined_text i.connections) (codes ");\n"))
+          ∙ ap (λ ps. (32 ∷ []) ∷ (32 ∷ []) ∷ ps) (word_then i.module 32 (i.name ++ (codes " (.clk(clk), .rst(rst)" ++ instance_end i)) (name_word i.module h.1.0) refl)
           ∙ ap (λ ps. (32 ∷ []) ∷ (32 ∷ []) ∷ i.module ∷ (32 ∷ []) ∷ ps) (word_then i.name 32 (codes "(.clk(clk), .rst(rst)" ++ instance_end i) (name_word i.name h.0) refl)
           ∙ ap (λ ps. (32 ∷ []) ∷ (32 ∷ []) ∷ i.module ∷ (32 ∷ []) ∷ i.name ∷ (32 ∷ []) ∷ codes "(" ∷ codes "." ∷ codes "clk" ∷ codes "(" ∷ codes "clk" ∷ codes ")" ∷ codes "," ∷ codes " " ∷ codes "." ∷ codes "rst" ∷ codes "(" ∷ codes "rst" ∷ codes ")" ∷ ps) (joined_pieces i.connections h.1.1)
 

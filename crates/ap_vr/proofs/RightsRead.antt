@@ -14,6 +14,7 @@ use Rattle.ap_vr.specs.declared.line.Right.TheVariants as right
 use Rattle.ap_vr.specs.LineForms.{beside, if_width, operand_in, digits_after, op_in, joined_in, plain_right_in, right_by, right_in}
 use Rattle.ap_vr.specs.LineTexts.{IsOperand, IsRight, IsWidth, right_text}
 use Rattle.ap_vr.specs.Pieces.{pieces_of}
+use Rattle.ap_vr.proofs.Regroup.{in_four, in_five, in_six, in_seven}
 use Rattle.ap_vr.proofs.Pieces.{IsWord, word_then, piece_ends}
 use Rattle.ap_vr.proofs.Words.{name_word, not_sign, operand_read, number_word, width_small, width_read, value_read, constant_pieces}
 
@@ -54,20 +55,18 @@ const_read width v h small =
 cat_read : (a b : List ℕ) → IsOperand a → IsOperand b → right_in (pieces_of (right_text (right.Cat a b) ++ codes ";\n")) ≡ Some (right.Cat a b)
 unfolding right_in right_by
 cat_read a b h g =
-    ap (λ ps. right_in ((123 ∷ []) ∷ ps)) (ap pieces_of (append_assoc a (44 ∷ 32 ∷ (b ++ codes "}")) (codes ";\n"))
-    ∙ word_then a 44 (32 ∷ ((b ++ codes "}") ++ codes ";\n")) (operand_word a h) refl
-    ∙ ap (λ ps. a ∷ (44 ∷ []) ∷ (32 ∷ []) ∷ ps) (ap pieces_of (append_assoc b (codes "}") (codes ";\n")) ∙ word_then b 125 (59 ∷ 10 ∷ []) (operand_word b g) refl))
+    ap (λ ps. right_in ((123 ∷ []) ∷ ps)) (ap pieces_of (in_five a (codes ", ") b (codes "}") (codes ";\n"))
+    ∙ word_then a 44 (32 ∷ (b ++ codes "};\n")) (operand_word a h) refl
+    ∙ ap (λ ps. a ∷ (44 ∷ []) ∷ (32 ∷ []) ∷ ps) (word_then b 125 (59 ∷ 10 ∷ []) (operand_word b g) refl))
     ∙ ap (option_map (λ (v : List ℕ × List ℕ). right.Cat v.0 v.1)) (both_read (operand_in a) (operand_in b) a b (operand_read a h) (operand_read b g))
 
 slice_read : (a : List ℕ) (h l : ℕ) → IsOperand a → h < 2 ^ 64 → l < 2 ^ 64 → right_in (pieces_of (right_text (right.Slice a h l) ++ codes ";\n")) ≡ Some (right.Slice a h l)
 unfolding plain_right_in
 slice_read a h l operand high low =
-    ap right_in (ap pieces_of (append_assoc a (91 ∷ (decimal h ++ 58 ∷ (decimal l ++ codes "]"))) (codes ";\n"))
-    ∙ word_then a 91 ((decimal h ++ 58 ∷ (decimal l ++ codes "]")) ++ codes ";\n") (operand_word a operand) refl
-    ∙ ap (λ ps. a ∷ (91 ∷ []) ∷ ps) (ap pieces_of (append_assoc (decimal h) (58 ∷ (decimal l ++ codes "]")) (codes ";\n"))
-    ∙ word_then (decimal h) 58 ((decimal l ++ codes "]") ++ codes ";\n") (number_word h high) refl
-    ∙ ap (λ ps. decimal h ∷ (58 ∷ []) ∷ ps) (ap pieces_of (append_assoc (decimal l) (codes "]") (codes ";\n"))
-    ∙ word_then (decimal l) 93 (59 ∷ 10 ∷ []) (number_word l low) refl)))
+    ap right_in (ap pieces_of (in_seven a (codes "[") (decimal h) (codes ":") (decimal l) (codes "]") (codes ";\n"))
+    ∙ word_then a 91 (decimal h ++ 58 ∷ (decimal l ++ codes "];\n")) (operand_word a operand) refl
+    ∙ ap (λ ps. a ∷ (91 ∷ []) ∷ ps) (word_then (decimal h) 58 (decimal l ++ codes "];\n") (number_word h high) refl
+    ∙ ap (λ ps. decimal h ∷ (58 ∷ []) ∷ ps) (word_then (decimal l) 93 (59 ∷ 10 ∷ []) (number_word l low) refl)))
     ∙ plain_first a (decimal h ∷ (58 ∷ []) ∷ decimal l ∷ (93 ∷ []) ∷ (59 ∷ []) ∷ (10 ∷ []) ∷ []) (91 ∷ []) (Some (right.Slice a h l)) (operand_word a operand)
     (ap (option_map (λ (v : List ℕ × (ℕ × ℕ)). right.Slice v.0 v.1.0 v.1.1)) (both_read (operand_in a) (beside (number_value (decimal h)) (number_value (decimal l))) a (h, l) (operand_read a operand)
     (both_read (number_value (decimal h)) (number_value (decimal l)) h l (number_value-decimal h high) (number_value-decimal l low))))
@@ -76,35 +75,39 @@ slice_read a h l operand high low =
 choose_read : (s a b : List ℕ) → IsOperand s → IsOperand a → IsOperand b → right_in (pieces_of (right_text (right.Choose s a b) ++ codes ";\n")) ≡ Some (right.Choose s a b)
 unfolding plain_right_in joined_in
 choose_read s a b f g h =
-    ap right_in (ap pieces_of (append_assoc s (codes " ? " ++ a ++ codes " : " ++ b) (codes ";\n"))
-    ∙ word_then s 32 (63 ∷ 32 ∷ ((a ++ codes " : " ++ b) ++ codes ";\n")) (operand_word s f) refl
-    ∙ ap (λ ps. s ∷ (32 ∷ []) ∷ (63 ∷ []) ∷ (32 ∷ []) ∷ ps) (ap pieces_of (append_assoc a (codes " : " ++ b) (codes ";\n"))
-    ∙ word_then a 32 (58 ∷ 32 ∷ (b ++ codes ";\n")) (operand_word a g) refl
+    ap right_in (ap pieces_of (in_six s (codes " ? ") a (codes " : ") b (codes ";\n"))
+    ∙ word_then s 32 (63 ∷ 32 ∷ (a ++ 32 ∷ 58 ∷ 32 ∷ (b ++ codes ";\n"))) (operand_word s f) refl
+    ∙ ap (λ ps. s ∷ (32 ∷ []) ∷ (63 ∷ []) ∷ (32 ∷ []) ∷ ps) (word_then a 32 (58 ∷ 32 ∷ (b ++ codes ";\n")) (operand_word a g) refl
     ∙ ap (λ ps. a ∷ (32 ∷ []) ∷ (58 ∷ []) ∷ (32 ∷ []) ∷ ps) (word_then b 59 (10 ∷ []) (operand_word b h) refl)))
     ∙ plain_first s ((63 ∷ []) ∷ (32 ∷ []) ∷ a ∷ (32 ∷ []) ∷ (58 ∷ []) ∷ (32 ∷ []) ∷ b ∷ (59 ∷ []) ∷ (10 ∷ []) ∷ []) (32 ∷ []) (Some (right.Choose s a b)) (operand_word s f)
     (ap (option_map (λ (v : List ℕ × (List ℕ × List ℕ)). right.Choose v.0 v.1.0 v.1.1)) (both_read (operand_in s) (beside (operand_in a) (operand_in b)) s (a, b) (operand_read s f)
+    (both_read (operand_in a) (operand_in b) a b (operand_read a g) (operand_read b h))))
+
+-- such a right side by its sign
+joined_two : (o : TwoOp) (c : ℕ) (a b : List ℕ) → IsOperand a → IsOperand b → op_in (c ∷ []) ≡ Some o → bytes_eq (c ∷ []) (codes "?") ≡ false → bytes_eq (c ∷ []) (codes "=") ≡ false
+    → joined_in (c ∷ []) (a ∷ (32 ∷ []) ∷ (c ∷ []) ∷ (32 ∷ []) ∷ b ∷ (59 ∷ []) ∷ (10 ∷ []) ∷ []) ≡ Some (right.Two o a b)
+unfolding joined_in
+joined_two o c a b g h known no_choice no_equal =
+    rw (no_choice, no_equal)
+    (ap (option_map (λ (v : TwoOp × (List ℕ × List ℕ)). right.Two v.0 v.1.0 v.1.1)) (both_read (op_in (c ∷ [])) (beside (operand_in a) (operand_in b)) o (a, b) known
     (both_read (operand_in a) (operand_in b) a b (operand_read a g) (operand_read b h))))
 
 -- two operands with a sign of one byte between them
 two_by : (o : TwoOp) (c : ℕ) (a b : List ℕ) → IsOperand a → IsOperand b → sign o ≡ 32 ∷ c ∷ 32 ∷ [] → is_name_byte c ≡ false → op_in (c ∷ []) ≡ Some o → bytes_eq (c ∷ []) (codes "?") ≡ false → bytes_eq (c ∷ []) (codes "=") ≡ false → right_in (pieces_of (right_text (right.Two o a b) ++ codes ";\n")) ≡ Some (right.Two o a b)
 unfolding plain_right_in joined_in
 two_by o c a b g h spelled other known no_choice no_equal =
-    ap (λ sign. right_in (pieces_of ((a ++ sign ++ b) ++ codes ";\n"))) spelled
-    ∙ ap right_in (ap pieces_of (append_assoc a (32 ∷ c ∷ 32 ∷ b) (codes ";\n"))
+    ap (λ sign. right_in (pieces_of (a ++ sign ++ b ++ codes ";\n"))) spelled
+    ∙ ap right_in (ap pieces_of (in_four a (32 ∷ c ∷ 32 ∷ []) b (codes ";\n"))
     ∙ word_then a 32 (c ∷ 32 ∷ (b ++ codes ";\n")) (operand_word a g) refl
     ∙ ap (λ ps. a ∷ (32 ∷ []) ∷ ps) (piece_ends [] c (32 ∷ (b ++ codes ";\n")) other)
     ∙ ap (λ ps. a ∷ (32 ∷ []) ∷ (c ∷ []) ∷ (32 ∷ []) ∷ ps) (word_then b 59 (10 ∷ []) (operand_word b h) refl))
-    ∙ plain_first a ((c ∷ []) ∷ (32 ∷ []) ∷ b ∷ (59 ∷ []) ∷ (10 ∷ []) ∷ []) (32 ∷ []) (Some (right.Two o a b)) (operand_word a g)
-    (ap (λ d. cond d _ (cond (bytes_eq (c ∷ []) (codes "=")) _ (option_map (λ (v : TwoOp × (List ℕ × List ℕ)). right.Two v.0 v.1.0 v.1.1) (beside (op_in (c ∷ [])) (beside (operand_in a) (operand_in b)))))) no_choice
-    ∙ ap (λ d. cond d _ (option_map (λ (v : TwoOp × (List ℕ × List ℕ)). right.Two v.0 v.1.0 v.1.1) (beside (op_in (c ∷ [])) (beside (operand_in a) (operand_in b))))) no_equal
-    ∙ ap (option_map (λ (v : TwoOp × (List ℕ × List ℕ)). right.Two v.0 v.1.0 v.1.1)) (both_read (op_in (c ∷ [])) (beside (operand_in a) (operand_in b)) o (a, b) known
-    (both_read (operand_in a) (operand_in b) a b (operand_read a g) (operand_read b h))))
+    ∙ plain_first a ((c ∷ []) ∷ (32 ∷ []) ∷ b ∷ (59 ∷ []) ∷ (10 ∷ []) ∷ []) (32 ∷ []) (Some (right.Two o a b)) (operand_word a g) (joined_two o c a b g h known no_choice no_equal)
 
 -- the sign of two bytes
 equal_read : (a b : List ℕ) → IsOperand a → IsOperand b → right_in (pieces_of (right_text (right.Two op.Eq a b) ++ codes ";\n")) ≡ Some (right.Two op.Eq a b)
 unfolding plain_right_in joined_in
 equal_read a b g h =
-    ap right_in (ap pieces_of (append_assoc a (codes " == " ++ b) (codes ";\n"))
+    ap right_in (ap pieces_of (in_four a (codes " == ") b (codes ";\n"))
     ∙ word_then a 32 (61 ∷ 61 ∷ 32 ∷ (b ++ codes ";\n")) (operand_word a g) refl
     ∙ ap (λ ps. a ∷ (32 ∷ []) ∷ (61 ∷ []) ∷ (61 ∷ []) ∷ (32 ∷ []) ∷ ps) (word_then b 59 (10 ∷ []) (operand_word b h) refl))
     ∙ plain_first a ((61 ∷ []) ∷ (61 ∷ []) ∷ (32 ∷ []) ∷ b ∷ (59 ∷ []) ∷ (10 ∷ []) ∷ []) (32 ∷ []) (Some (right.Two op.Eq a b)) (operand_word a g)

@@ -18,6 +18,7 @@ use Rattle.ap_net.specs.Text.{range_text, constant_text}
 use Rattle.ap_vr.specs.LineForms.{name_in, operand_in, digits_after, if_high, if_width}
 use Rattle.ap_vr.specs.LineTexts.{IsOperand, IsWidth}
 use Rattle.ap_vr.specs.Pieces.{pieces_after, pieces_of}
+use Rattle.ap_vr.proofs.Regroup.{in_four}
 use Rattle.ap_vr.proofs.Pieces.{IsWord, word_then, past_word, after_some, piece_ends}
 
 -- bytes that compare equal are equal, and others don't
@@ -107,6 +108,6 @@ range_pieces width line h =
 -- a constant, and then a byte that is none of a word
 pub constant_pieces : (width v b : ℕ) (line : List ℕ) → IsWidth width → v < 2 ^ 64 → is_name_byte b ≡ false → pieces_of (constant_text width v ++ b ∷ line) ≡ decimal width ∷ (39 ∷ []) ∷ (100 ∷ decimal v) ∷ (b ∷ []) ∷ pieces_of line
 constant_pieces width v b line h small other =
-    ap pieces_of (append_assoc (decimal width) (codes "'d" ++ decimal v) (b ∷ line))
+    ap pieces_of (in_four (decimal width) (codes "'d") (decimal v) (b ∷ line))
     ∙ word_then (decimal width) 39 (100 ∷ (decimal v ++ b ∷ line)) (number_word width (width_small width h)) refl
     ∙ ap (λ ps. decimal width ∷ (39 ∷ []) ∷ ps) (past_word (100 ∷ []) (decimal v) (b ∷ line) (number_word v small).all ∙ piece_ends (100 ∷ decimal v) b line other)

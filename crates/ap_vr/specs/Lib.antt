@@ -7,5 +7,3 @@ pub mod TextLines
 pub mod Places
 pub mod Named
 pub mod Reading
-pub mod Scope
-pub mod Tables

@@ -54,30 +54,4 @@ impl NamedModule {
         }
         Ok(())
     }
-
-    /// The line of the first wire.
-    fn wires_from(&self) -> u32 {
-        self.line + 4 + self.ports.len() as u32
-    }
-
-    /// The line of the first assign.
-    pub(crate) fn assigns_from(&self) -> u32 {
-        self.wires_from() + self.wires.len() as u32 + self.regs.len() as u32
-    }
-
-    /// The line of the first driver of a register.
-    pub(crate) fn nexts_from(&self) -> u32 {
-        self.assigns_from() + self.assigns.len() as u32
-    }
-
-    /// The line of the first instance.
-    pub(crate) fn instances_from(&self) -> u32 {
-        self.nexts_from() + self.nexts.len() as u32
-    }
-
-    /// The line in which the net of this number is declared.
-    pub(crate) fn net_line(&self, number: usize) -> u32 {
-        let before = if number < self.ports.len() { 3 } else { 4 };
-        self.line + before + number as u32
-    }
 }

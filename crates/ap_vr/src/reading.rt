@@ -105,7 +105,7 @@ fn module_name(lines: &mut Lines, alloc: Global) -> Result<NetName, NetFault>
 }
 
 /// The modules of a text that isn't too long.
-pub(crate) fn read_modules(alloc: Global, text: &[u8]) -> Result<Vec<NamedModule>, NetFault>
+pub fn read_modules(alloc: Global, text: &[u8]) -> Result<Vec<NamedModule>, NetFault>
     requires { length text.now ≤ 67108864 }
     ensures ok { IfOk result (λ modules. AreModulesOf text.now modules.items) }
     ensures err { IfErr result (IsBadRead start text.now) }
