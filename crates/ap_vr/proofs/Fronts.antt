@@ -149,7 +149,7 @@ body_grows head body more line h = ap (λ t. head ++ codes "\n);\n" ++ t) h ∙ 
 -- what a module keeps of its lines so far, where this is due
 pub record IsFront (at : Part) (top : Bool) (m : NamedModule) : Type 0 where
   pub name : IsNetName m.name
-  pub top : top ≡ bytes_eq m.name (codes "top")
+  pub is_top : top ≡ bytes_eq m.name (codes "top")
   pub no_ports : 1 ≤ number at → number at ≤ 2 → m.ports ≡ []
   pub some : (number at ≡ 0 → 0 < length m.ports) × (4 ≤ number at → 0 < length m.ports)
   pub no_wires : 1 ≤ number at → number at ≤ 4 → m.wires ≡ []

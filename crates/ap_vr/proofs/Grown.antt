@@ -1,6 +1,6 @@
 -- One more line of a module that is due there: its text comes after that of the lines before it, and the module keeps its rules.
 use Rattle.std.proofs.Common.{◌≡◌, ◌≢◌, ℕ, ◌+◌, ◌<◌, ◌≤◌, ◌==◌, ◌&&◌, nat_le, Bool, true, false, cond, List, [], ◌∷◌, ◌++◌, length, refl, sym, ap, subst, ◌∙◌, arith, append_assoc, append-nil}
-use Rattle.std.specs.Prelude.{codes}
+use Rattle.std.specs.Prelude.{if◌then◌else◌, codes}
 use Rattle.std.specs.List.{flat_map, AllByRecursion as Each}
 use Rattle.std.proofs.lemmas.Bool.{and_parts, eqb-true, leb-true, true≢false}
 use Rattle.std.proofs.lemmas.List.{length_push}
@@ -28,7 +28,7 @@ each_more P [] x h g = (g, tt)
 each_more P (y ∷ xs) x h g = (h.0, each_more P xs x h.1 g)
 
 -- the numbers between which a part's is
-between : (n low high : ℕ) → (nat_le low n && nat_le n high) ≡ true → (low ≤ n) × (n ≤ high)
+pub between : (n low high : ℕ) → (nat_le low n && nat_le n high) ≡ true → (low ≤ n) × (n ≤ high)
 between n low high h = let both = and_parts (nat_le low n) (nat_le n high) h in (leb-true low n both.0, leb-true n high both.1)
 
 -- the head of a module whose ports don't stand there yet
@@ -128,7 +128,7 @@ front_step at top m line.Clock front inside due rules =
     let k = eqb-true (number at) 1 due in
     record {
       name = front.name;
-      top = front.top;
+      is_top = front.is_top;
       no_ports = λ h g. front.no_ports (omega (arith, k)) (omega (arith, k));
       no_wires = λ h g. front.no_wires (omega (arith, k)) (omega (arith, k));
       no_regs = λ h g. front.no_regs (omega (arith, k)) (omega (arith, k));
@@ -148,7 +148,7 @@ front_step at top m line.Reset front inside due rules =
     let k = eqb-true (number at) 2 due in
     record {
       name = front.name;
-      top = front.top;
+      is_top = front.is_top;
       no_ports = λ h g. absurd (omega (arith, g));
       no_wires = λ h g. front.no_wires (omega (arith, k)) (omega (arith, k));
       no_regs = λ h g. front.no_regs (omega (arith, k)) (omega (arith, k));
@@ -168,7 +168,7 @@ front_step at top m (line.Port p true) front inside due rules =
     let k = eqb-true (number at) 3 due in
     record {
       name = front.name;
-      top = front.top;
+      is_top = front.is_top;
       no_ports = λ h g. absurd (omega (arith, g));
       no_wires = λ h g. front.no_wires (omega (arith, k)) (omega (arith, k));
       no_regs = λ h g. front.no_regs (omega (arith, k)) (omega (arith, k));
@@ -188,7 +188,7 @@ front_step at top m (line.Port p false) front inside due rules =
     let k = eqb-true (number at) 3 due in
     record {
       name = front.name;
-      top = front.top;
+      is_top = front.is_top;
       no_ports = λ h g. absurd (omega (arith, g));
       no_wires = λ h g. front.no_wires (omega (arith, k)) (omega (arith, k));
       no_regs = λ h g. front.no_regs (omega (arith, k)) (omega (arith, k));
@@ -208,7 +208,7 @@ front_step at top m line.Close front inside due rules =
     let k = eqb-true (number at) 4 due in
     record {
       name = front.name;
-      top = front.top;
+      is_top = front.is_top;
       no_ports = λ h g. absurd (omega (arith, g));
       no_wires = λ h g. absurd (omega (arith, g));
       no_regs = λ h g. front.no_regs (omega (arith, k)) (omega (arith, k));
@@ -228,7 +228,7 @@ front_step at top m (line.Wire n) front inside due rules =
     let k = eqb-true (number at) 5 due in
     record {
       name = front.name;
-      top = front.top;
+      is_top = front.is_top;
       no_ports = λ h g. absurd (omega (arith, g));
       no_wires = λ h g. absurd (omega (arith, g));
       no_regs = λ h g. front.no_regs (omega (arith, k)) (omega (arith, k));
@@ -248,7 +248,7 @@ front_step at top m (line.Reg n) front inside due rules =
     let k = between (number at) 5 6 due in
     record {
       name = front.name;
-      top = front.top;
+      is_top = front.is_top;
       no_ports = λ h g. absurd (omega (arith, g));
       no_wires = λ h g. absurd (omega (arith, g));
       no_regs = λ h g. absurd (omega (arith, g));
@@ -268,7 +268,7 @@ front_step at top m (line.Assign a) front inside due rules =
     let k = between (number at) 5 7 due in
     record {
       name = front.name;
-      top = front.top;
+      is_top = front.is_top;
       no_ports = λ h g. absurd (omega (arith, g));
       no_wires = λ h g. absurd (omega (arith, g));
       no_regs = λ h g. absurd (omega (arith, g));
@@ -288,7 +288,7 @@ front_step at top m (line.Always x) front inside due rules =
     let k = between (number at) 5 8 due in
     record {
       name = front.name;
-      top = front.top;
+      is_top = front.is_top;
       no_ports = λ h g. absurd (omega (arith, g));
       no_wires = λ h g. absurd (omega (arith, g));
       no_regs = λ h g. absurd (omega (arith, g));
@@ -308,7 +308,7 @@ front_step at top m (line.Instance i) front inside due rules =
     let k = leb-true 5 (number at) (and_parts (nat_le 5 (number at)) top due).0 in
     record {
       name = front.name;
-      top = front.top;
+      is_top = front.is_top;
       no_ports = λ h g. absurd (omega (arith, g));
       no_wires = λ h g. absurd (omega (arith, g));
       no_regs = λ h g. absurd (omega (arith, g));
@@ -328,7 +328,7 @@ front_step at top m line.End front inside due rules =
     let k = leb-true 5 (number at) due in
     record {
       name = front.name;
-      top = front.top;
+      is_top = front.is_top;
       no_ports = λ h g. absurd (omega (arith, h));
       no_wires = λ h g. absurd (omega (arith, h));
       no_regs = λ h g. absurd (omega (arith, h));

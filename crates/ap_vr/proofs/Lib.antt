@@ -1,8 +1,10 @@
 mod Regroup
 mod Pieces
 mod Words
+pub mod Operands
 mod RightsRead
 mod LinesRead
+mod LineFound
 mod TextLines
 mod Fronts
 mod Grown

@@ -1,6 +1,6 @@
 -- Each line is read from its text.
 use Rattle.std.proofs.Common.{◌≡◌, ◌≢◌, ℕ, ◌+◌, ◌-◌, ◌<◌, ◌^◌, Bool, true, false, cond, ◌||◌, not, nat_lt, List, [], ◌∷◌, ◌++◌, length, drop, Option, Some, None, refl, sym, ap, ◌∙◌, append_assoc, true≢false, ◌&&◌, nat_le}
-use Rattle.std.specs.Prelude.{codes, option_map, option_and_then}
+use Rattle.std.specs.Prelude.{if◌then◌else◌, codes, option_map, option_and_then}
 use Rattle.std.specs.Fmt.{decimal}
 use Rattle.std.specs.List.{flat_map, list_all, list_any, AllByRecursion as Each}
 use Rattle.std.specs.Str.{bytes_eq}
@@ -94,8 +94,8 @@ always_read x h =
     ap (λ ps. line_in (always_lead ps)) (ap pieces_of first ∙ first_pieces)
     ∙ ap (λ found. option_map (λ x. line.Always x) (option_map (λ v. record { register = v.0; width = v.1.0; reset = v.1.1.0; from = v.1.1.1 }) found))
     (both_read (name_in x.register) (beside (option_and_then if_width (number_value (decimal x.width))) (beside (digits_after (100 ∷ decimal x.reset)) (operand_in x.from))) x.register (x.width, x.reset, x.from) (name_read x.register h.0)
-    (both_read (option_and_then if_width (number_value (decimal x.width))) (beside (digits_after (100 ∷ decimal x.reset)) (operand_in x.from)) x.width (x.reset, x.from) (width_read x.width h.1.0)
-    (both_read (digits_after (100 ∷ decimal x.reset)) (operand_in x.from) x.reset x.from (value_read x.reset h.1.1.0) (operand_read x.from h.1.1.1)))) where
+    (both_read (option_and_then if_width (number_value (decimal x.width))) (beside (digits_after (100 ∷ decimal x.reset)) (operand_in x.from)) x.width (x.reset, x.from) (width_read x.width h.1)
+    (both_read (digits_after (100 ∷ decimal x.reset)) (operand_in x.from) x.reset x.from (value_read x.reset h.2) (operand_read x.from h.3)))) where
       first : taken_text x.register (reset_text x) ++ codes " else " ++ taken_text x.register x.from ++ codes "\n" ≡ x.register ++ 32 ∷ 60 ∷ 61 ∷ 32 ∷ (reset_text x ++ 59 ∷ (codes " else " ++ x.register ++ 32 ∷ 60 ∷ 61 ∷ 32 ∷ (x.from ++ 59 ∷ 10 ∷ [])))
       first = in_four (taken_text x.register (reset_text x)) (codes " else ") (taken_text x.register x.from) (codes "\n")
           ∙ taken_then x.register (reset_text x) (codes " else " ++ (taken_text x.register x.from ++ codes "\n"))
@@ -103,11 +103,11 @@ always_read x h =
 
       last_pieces : pieces_of (codes " else " ++ x.register ++ 32 ∷ 60 ∷ 61 ∷ 32 ∷ (x.from ++ 59 ∷ 10 ∷ [])) ≡ (32 ∷ []) ∷ codes "else" ∷ (32 ∷ []) ∷ x.register ∷ (32 ∷ []) ∷ (60 ∷ []) ∷ (61 ∷ []) ∷ (32 ∷ []) ∷ x.from ∷ (59 ∷ []) ∷ (10 ∷ []) ∷ []
       last_pieces = ap (λ ps. (32 ∷ []) ∷ codes "else" ∷ (32 ∷ []) ∷ ps) (word_then x.register 32 (60 ∷ 61 ∷ 32 ∷ (x.from ++ 59 ∷ 10 ∷ [])) (name_word x.register h.0) refl
-          ∙ ap (λ ps. x.register ∷ (32 ∷ []) ∷ (60 ∷ []) ∷ (61 ∷ []) ∷ (32 ∷ []) ∷ ps) (word_then x.from 59 (10 ∷ []) (name_word x.from h.1.1.1.0) refl))
+          ∙ ap (λ ps. x.register ∷ (32 ∷ []) ∷ (60 ∷ []) ∷ (61 ∷ []) ∷ (32 ∷ []) ∷ ps) (word_then x.from 59 (10 ∷ []) (name_word x.from h.3.0) refl))
 
       first_pieces : pieces_of (x.register ++ 32 ∷ 60 ∷ 61 ∷ 32 ∷ ((reset_text x) ++ 59 ∷ (codes " else " ++ x.register ++ 32 ∷ 60 ∷ 61 ∷ 32 ∷ (x.from ++ 59 ∷ 10 ∷ [])))) ≡ x.register ∷ (32 ∷ []) ∷ (60 ∷ []) ∷ (61 ∷ []) ∷ (32 ∷ []) ∷ decimal x.width ∷ (39 ∷ []) ∷ (100 ∷ decimal x.reset) ∷ (59 ∷ []) ∷ (32 ∷ []) ∷ codes "else" ∷ (32 ∷ []) ∷ x.register ∷ (32 ∷ []) ∷ (60 ∷ []) ∷ (61 ∷ []) ∷ (32 ∷ []) ∷ x.from ∷ (59 ∷ []) ∷ (10 ∷ []) ∷ []
       first_pieces = word_then x.register 32 (60 ∷ 61 ∷ 32 ∷ ((reset_text x) ++ 59 ∷ (codes " else " ++ x.register ++ 32 ∷ 60 ∷ 61 ∷ 32 ∷ (x.from ++ 59 ∷ 10 ∷ [])))) (name_word x.register h.0) refl
-          ∙ ap (λ ps. x.register ∷ (32 ∷ []) ∷ (60 ∷ []) ∷ (61 ∷ []) ∷ (32 ∷ []) ∷ ps) (constant_pieces x.width x.reset 59 (codes " else " ++ x.register ++ 32 ∷ 60 ∷ 61 ∷ 32 ∷ (x.from ++ 59 ∷ 10 ∷ [])) h.1.0 h.1.1.0 refl
+          ∙ ap (λ ps. x.register ∷ (32 ∷ []) ∷ (60 ∷ []) ∷ (61 ∷ []) ∷ (32 ∷ []) ∷ ps) (constant_pieces x.width x.reset 59 (codes " else " ++ x.register ++ 32 ∷ 60 ∷ 61 ∷ 32 ∷ (x.from ++ 59 ∷ 10 ∷ [])) h.1 h.2 refl
           ∙ ap (λ ps. decimal x.width ∷ (39 ∷ []) ∷ (100 ∷ decimal x.reset) ∷ (59 ∷ []) ∷ ps) last_pieces)
 
 -- connections, and the end of their line
@@ -147,9 +147,7 @@ pub record IsFreeWord (name : List ℕ) : Type 0 where
 
 free_word : (name : List ℕ) → IsNetName name → IsFreeWord name
 free_word name h =
-    let a = (and_parts (starts_with_letter name) (list_all is_name_byte name && (nat_le (length name) 100 && not (list_any (bytes_eq name) barred_words))) h).1 in
-    let b = (and_parts (list_all is_name_byte name) (nat_le (length name) 100 && not (list_any (bytes_eq name) barred_words)) a).1 in
-    let c = (and_parts (nat_le (length name) 100) (not (list_any (bytes_eq name) barred_words)) b).1 in
+    let c = (and_parts (starts_with_letter name && list_all is_name_byte name && nat_le (length name) 100) (not (list_any (bytes_eq name) barred_words)) h).1 in
     let none : list_any (bytes_eq name) barred_words ≡ false = not-true (list_any (bytes_eq name) barred_words) c in
     let r = neither (bytes_eq name (codes "module")) _ none in
     let r = neither (bytes_eq name (codes "endmodule")) _ r.1 in
@@ -176,16 +174,16 @@ instance_read : (i : NamedInstance) → IsInstance i → line_in (pieces_of (nam
 unfolding line_in line_by instance_in
 instance_read i h =
     ap line_in whole
-    ∙ other_inner i.module (instance_pieces i) (free_word i.module h.1.0)
+    ∙ other_inner i.module (instance_pieces i) (free_word i.module h.1)
     ∙ ap (λ found. option_map (λ i. line.Instance i) (option_map (λ v. record { «module» = v.0; name = v.1.0; connections = v.1.1 }) found))
-    (both_read (name_in i.module) (beside (name_in i.name) (connections_in (connection_pieces i.connections))) i.module (i.name, i.connections) (name_read i.module h.1.0)
-    (both_read (name_in i.name) (connections_in (connection_pieces i.connections)) i.name i.connections (name_read i.name h.0) (joins_read i.connections h.1.1))) where
+    (both_read (name_in i.module) (beside (name_in i.name) (connections_in (connection_pieces i.connections))) i.module (i.name, i.connections) (name_read i.module h.1)
+    (both_read (name_in i.name) (connections_in (connection_pieces i.connections)) i.name i.connections (name_read i.name h.0) (joins_read i.connections h.2))) where
       whole : pieces_of (named_instance_line i) ≡ (instance_pieces i)
       whole =
           ap (λ t. (32 ∷ []) ∷ (32 ∷ []) ∷ pieces_of t) (in_six i.module (codes " ") i.name (codes " (.clk(clk), .rst(rst)") (flat_map joined_text i.connections) (codes ");\n"))
-          ∙ ap (λ ps. (32 ∷ []) ∷ (32 ∷ []) ∷ ps) (word_then i.module 32 (i.name ++ (codes " (.clk(clk), .rst(rst)" ++ instance_end i)) (name_word i.module h.1.0) refl)
+          ∙ ap (λ ps. (32 ∷ []) ∷ (32 ∷ []) ∷ ps) (word_then i.module 32 (i.name ++ (codes " (.clk(clk), .rst(rst)" ++ instance_end i)) (name_word i.module h.1) refl)
           ∙ ap (λ ps. (32 ∷ []) ∷ (32 ∷ []) ∷ i.module ∷ (32 ∷ []) ∷ ps) (word_then i.name 32 (codes "(.clk(clk), .rst(rst)" ++ instance_end i) (name_word i.name h.0) refl)
-          ∙ ap (λ ps. (32 ∷ []) ∷ (32 ∷ []) ∷ i.module ∷ (32 ∷ []) ∷ i.name ∷ (32 ∷ []) ∷ codes "(" ∷ codes "." ∷ codes "clk" ∷ codes "(" ∷ codes "clk" ∷ codes ")" ∷ codes "," ∷ codes " " ∷ codes "." ∷ codes "rst" ∷ codes "(" ∷ codes "rst" ∷ codes ")" ∷ ps) (joined_pieces i.connections h.1.1)
+          ∙ ap (λ ps. (32 ∷ []) ∷ (32 ∷ []) ∷ i.module ∷ (32 ∷ []) ∷ i.name ∷ (32 ∷ []) ∷ codes "(" ∷ codes "." ∷ codes "clk" ∷ codes "(" ∷ codes "clk" ∷ codes ")" ∷ codes "," ∷ codes " " ∷ codes "." ∷ codes "rst" ∷ codes "(" ∷ codes "rst" ∷ codes ")" ∷ ps) (joined_pieces i.connections h.2)
 
 -- the pieces of a line's text give the line
 pub line_read : (x : Line) → IsLine x → line_in (pieces_of (line_text x)) ≡ Some x

@@ -1,6 +1,6 @@
 -- A module as far as a loop has read it.
 use Rattle.std.proofs.Common.{◌≡◌, ◌≢◌, ◌⊎◌, ℕ, ◌+◌, ◌<◌, ◌≤◌, ◌==◌, ◌&&◌, nat_le, nat_lt, min, Bool, true, false, cond, List, [], ◌∷◌, ◌++◌, length, inl, inr, refl, sym, ap, subst, ◌∙◌, arith, append_assoc, append-nil}
-use Rattle.std.specs.Prelude.{codes}
+use Rattle.std.specs.Prelude.{if◌then◌else◌, codes}
 use Rattle.std.specs.Str.{bytes_eq}
 use Rattle.std.proofs.lemmas.Bool.{and_parts, eqb-true, leb-true, lt-ltb}
 use Rattle.std.proofs.lemmas.List.{length_push, length-append}
@@ -9,7 +9,7 @@ use Rattle.ap_vr.specs.declared.fault.NetFault.{NetFault}
 use Rattle.ap_vr.specs.declared.fault.NetFault.TheVariants.{NoMemory, At}
 use Rattle.ap_vr.specs.declared.fault.NetKind.TheVariants.{BadForm}
 use Rattle.ap_vr.specs.declared.line.Line.{Line}
-use Rattle.ap_vr.specs.declared.line.Line.TheVariants as line
+use Rattle.ap_vr.specs.declared.line.Line.TheVariants as said
 use Rattle.ap_vr.specs.declared.module.NamedModule.{NamedModule}
 use Rattle.ap_vr.specs.declared.place.Part.{Part}
 use Rattle.ap_vr.specs.declared.place.Part.TheVariants as part
@@ -21,7 +21,7 @@ use Rattle.ap_vr.specs.Reading.{HasRoom, IsBadRead, IsModuleRead, IsNoNext, Take
 use Rattle.ap_vr.specs.TextLines.{text_lines}
 use Rattle.ap_vr.proofs.Fronts.{IsFront, front_text}
 use Rattle.ap_vr.proofs.Grown.{between, text_step, front_step}
-use Rattle.ap_vr.proofs.NextLine.{after_inner, bad_after, bad_here}
+use Rattle.ap_vr.proofs.NextLine.{after_inner, bad_after, bad_before, bad_here}
 use Rattle.ap_vr.proofs.Words.{other_bytes}
 
 -- how many lines a module has beside its declarations, where the part of this number is due
@@ -39,24 +39,24 @@ base_body n h = ap (λ c. cond c 4 (cond (n == 0) 5 (min n 3))) (lt-ltb 4 n (ome
 
 -- each line is one more
 count_step : (at : Part) (top : Bool) (m : NamedModule) (x : Line) → number at ≢ 0 → is_due at top x ≡ true → lines_so_far (part_after x) (grown m x) ≡ lines_so_far at m + 1
-count_step at top m (line.Module name) inside due = absurd (inside (eqb-true (number at) 0 due))
-count_step at top m line.Clock inside due = rw (eqb-true (number at) 1 due) (omega arith)
-count_step at top m line.Reset inside due = rw (eqb-true (number at) 2 due) (omega arith)
-count_step at top m (line.Port p true) inside due = rw (eqb-true (number at) 3 due, length_push m.ports p) (omega arith)
-count_step at top m (line.Port p false) inside due = rw (eqb-true (number at) 3 due, length_push m.ports p) (omega arith)
-count_step at top m line.Close inside due = rw (eqb-true (number at) 4 due) (omega arith)
-count_step at top m (line.Wire n) inside due = rw (eqb-true (number at) 5 due, length_push m.wires n) (omega arith)
-count_step at top m (line.Reg n) inside due = rw (base_body (number at) (between (number at) 5 6 due).0, length_push m.regs n) (omega arith)
-count_step at top m (line.Assign a) inside due = rw (base_body (number at) (between (number at) 5 7 due).0, length_push m.assigns a) (omega arith)
-count_step at top m (line.Always x) inside due = rw (base_body (number at) (between (number at) 5 8 due).0, length_push m.nexts x) (omega arith)
-count_step at top m (line.Instance i) inside due = rw (base_body (number at) (leb-true 5 (number at) (and_parts (nat_le 5 (number at)) top due).0), length_push m.instances i) (omega arith)
-count_step at top m line.End inside due = rw (base_body (number at) (leb-true 5 (number at) due)) (omega arith)
+count_step at top m (said.Module name) inside due = absurd (inside (eqb-true (number at) 0 due))
+count_step at top m said.Clock inside due = rw (eqb-true (number at) 1 due) (omega arith)
+count_step at top m said.Reset inside due = rw (eqb-true (number at) 2 due) (omega arith)
+count_step at top m (said.Port p true) inside due = rw (eqb-true (number at) 3 due, length_push m.ports p) (omega arith)
+count_step at top m (said.Port p false) inside due = rw (eqb-true (number at) 3 due, length_push m.ports p) (omega arith)
+count_step at top m said.Close inside due = rw (eqb-true (number at) 4 due) (omega arith)
+count_step at top m (said.Wire n) inside due = rw (eqb-true (number at) 5 due, length_push m.wires n) (omega arith)
+count_step at top m (said.Reg n) inside due = rw (base_body (number at) (between (number at) 5 6 due).0, length_push m.regs n) (omega arith)
+count_step at top m (said.Assign a) inside due = rw (base_body (number at) (between (number at) 5 7 due).0, length_push m.assigns a) (omega arith)
+count_step at top m (said.Always x) inside due = rw (base_body (number at) (between (number at) 5 8 due).0, length_push m.nexts x) (omega arith)
+count_step at top m (said.Instance i) inside due = rw (base_body (number at) (leb-true 5 (number at) (and_parts (nat_le 5 (number at)) top due).0), length_push m.instances i) (omega arith)
+count_step at top m said.End inside due = rw (base_body (number at) (leb-true 5 (number at) due)) (omega arith)
 
 -- the module that began in this line with this name, as far as the loop has come from the lines after its first to these
 pub record ModuleSoFar (first : ℕ) (name : List ℕ) (old : Lines) (at : Part) (top : Bool) (m : NamedModule) (now : Lines) : Type 0 where
   pub named : m.name ≡ name
   pub begins : m.line ≡ first
-  pub top : top ≡ bytes_eq name (codes "top")
+  pub is_top : top ≡ bytes_eq name (codes "top")
   pub front : IsFront at top m
   pub body : List ℕ
   pub text : old.rest.now ≡ body ++ now.rest.now
@@ -64,6 +64,7 @@ pub record ModuleSoFar (first : ℕ) (name : List ℕ) (old : Lines) (at : Part)
   pub count : now.number ≡ first + lines_so_far at m
   pub room : HasRoom now
   pub bad : (line : ℕ) → IsBadFrom (record { at = at; top = top; began = first; next = now.number }) (text_lines now.rest.now) line → IsBadFrom (place_in first name old) (text_lines old.rest.now) line
+  pub back : (line : ℕ) → IsBadFrom (place_in first name old) (text_lines old.rest.now) line → IsBadFrom (record { at = at; top = top; began = first; next = now.number }) (text_lines now.rest.now) line
 
 abbrev place_at : ℕ → Part → Bool → Lines → Place
 place_at first at top now = record { at = at; top = top; began = first; next = now.number }
@@ -73,10 +74,10 @@ pub module_begins : (first : ℕ) (name : List ℕ) (old : Lines) (top : Bool) �
 module_begins first name old top rules room at is_top = record {
   named = refl;
   begins = refl;
-  top = is_top;
+  is_top = is_top;
   front = record {
     name = rules;
-    top = is_top;
+    is_top = is_top;
     no_ports = λ _ _. refl;
     some = (λ h. absurd (omega (arith, h)), λ h. absurd (omega (arith, h)));
     no_wires = λ _ _. refl;
@@ -98,6 +99,7 @@ module_begins first name old top rules room at is_top = record {
   count = sym at;
   room = room;
   bad = λ line bad. subst (λ t. IsBadFrom (place_at first part.Clock t old) (text_lines old.rest.now) line) is_top bad;
+  back = λ line bad. subst (λ t. IsBadFrom (place_at first part.Clock t old) (text_lines old.rest.now) line) (sym is_top) bad;
 }
 
 -- one more line that is due
@@ -105,7 +107,7 @@ pub module_grows : (first : ℕ) (name : List ℕ) (old : Lines) (at : Part) (to
 module_grows first name old at top m now new x far inside taken due = record {
   named = same_name x ∙ far.named;
   begins = same_line x ∙ far.begins;
-  top = far.top;
+  is_top = far.is_top;
   front = front_step at top m x far.front inside due taken.1.spelled.0;
   body = far.body ++ taken.0;
   text = far.text ∙ ap (λ t. far.body ++ t) taken.1.text ∙ sym (append_assoc far.body taken.0 new.rest.now);
@@ -113,32 +115,33 @@ module_grows first name old at top m now new x far inside taken due = record {
   count = taken.1.number ∙ ap (λ n. n + 1) far.count ∙ more ∙ ap (λ n. first + n) (sym (count_step at top m x inside due));
   room = less;
   bad = λ line bad. far.bad line (bad_after (place_at first at top now) now new x line taken due (subst (λ p. IsBadFrom p (text_lines new.rest.now) line) place bad));
+  back = λ line bad. subst (λ p. IsBadFrom p (text_lines new.rest.now) line) (sym place) (bad_before (place_at first at top now) now new x line taken due (far.back line bad));
 } where
   same_name : (x : Line) → (grown m x).name ≡ m.name
-  same_name (line.Module name) = refl
-  same_name line.Clock = refl
-  same_name line.Reset = refl
-  same_name (line.Port p more) = refl
-  same_name line.Close = refl
-  same_name (line.Wire n) = refl
-  same_name (line.Reg n) = refl
-  same_name (line.Assign a) = refl
-  same_name (line.Always x) = refl
-  same_name (line.Instance i) = refl
-  same_name line.End = refl
+  same_name (said.Module name) = refl
+  same_name said.Clock = refl
+  same_name said.Reset = refl
+  same_name (said.Port p more) = refl
+  same_name said.Close = refl
+  same_name (said.Wire n) = refl
+  same_name (said.Reg n) = refl
+  same_name (said.Assign a) = refl
+  same_name (said.Always x) = refl
+  same_name (said.Instance i) = refl
+  same_name said.End = refl
 
   same_line : (x : Line) → (grown m x).line ≡ m.line
-  same_line (line.Module name) = refl
-  same_line line.Clock = refl
-  same_line line.Reset = refl
-  same_line (line.Port p more) = refl
-  same_line line.Close = refl
-  same_line (line.Wire n) = refl
-  same_line (line.Reg n) = refl
-  same_line (line.Assign a) = refl
-  same_line (line.Always x) = refl
-  same_line (line.Instance i) = refl
-  same_line line.End = refl
+  same_line (said.Module name) = refl
+  same_line said.Clock = refl
+  same_line said.Reset = refl
+  same_line (said.Port p more) = refl
+  same_line said.Close = refl
+  same_line (said.Wire n) = refl
+  same_line (said.Reg n) = refl
+  same_line (said.Assign a) = refl
+  same_line (said.Always x) = refl
+  same_line (said.Instance i) = refl
+  same_line said.End = refl
 
   more : (first + lines_so_far at m) + 1 ≡ first + (lines_so_far at m + 1)
   more = omega arith
@@ -176,13 +179,14 @@ module_ends first name old top m now far = record {
     assigns = far.front.assigns;
     nexts = far.front.nexts;
     instances = far.front.instances;
-    alone = λ other. far.front.alone (far.top ∙ other_bytes name (codes "top") (λ e. other (far.named ∙ e)));
+    alone = λ other. far.front.alone (far.is_top ∙ other_bytes name (codes "top") (λ e. other (far.named ∙ e)));
   };
   body = far.body;
   text = far.text;
   whole = far.whole;
   ends = far.count ∙ ap (λ n. first + n) counted;
-  bad = λ line bad. far.bad line (subst (λ t. IsBadFrom (place_at first part.Start t now) (text_lines now.rest.now) line) (sym far.top) bad);
+  bad = λ line bad. far.bad line (subst (λ t. IsBadFrom (place_at first part.Start t now) (text_lines now.rest.now) line) (sym far.is_top) bad);
+  back = λ line bad. subst (λ t. IsBadFrom (place_at first part.Start t now) (text_lines now.rest.now) line) far.is_top (far.back line bad);
 } where
   counted : lines_so_far part.Start m ≡ line_count m
   counted = omega arith

@@ -1,6 +1,6 @@
 -- What the next line of a text means for the lines after a place.
-use Rattle.std.proofs.Common.{◌≡◌, ◌≢◌, ◌⊎◌, ℕ, ◌+◌, ◌<◌, ◌≤◌, Bool, true, false, List, [], ◌∷◌, ◌++◌, length, take, drop, Option, Some, inl, inr, refl, sym, ap, subst, ◌∙◌, arith, true≢false}
-use Rattle.std.specs.Prelude.{codes}
+use Rattle.std.proofs.Common.{◌≡◌, ◌≢◌, ◌⊎◌, ℕ, ◌+◌, ◌<◌, ◌≤◌, Bool, true, false, List, [], ◌∷◌, ◌++◌, length, take, drop, Option, Some, inl, inr, ⊎_elim, refl, sym, ap, subst, ◌∙◌, arith, true≢false}
+use Rattle.std.specs.Prelude.{if◌then◌else◌, codes}
 use Rattle.std.proofs.lemmas.List.{take-append-drop}
 use Rattle.std.proofs.lemmas.Bool.{eqb-true}
 use Rattle.std.proofs.lemmas.Option.{same_Some}
@@ -10,7 +10,7 @@ use Rattle.ap_vr.specs.declared.fault.NetFault.{NetFault}
 use Rattle.ap_vr.specs.declared.fault.NetFault.TheVariants.{NoMemory, At}
 use Rattle.ap_vr.specs.declared.fault.NetKind.TheVariants.{BadForm}
 use Rattle.ap_vr.specs.declared.line.Line.{Line}
-use Rattle.ap_vr.specs.declared.line.Line.TheVariants as line
+use Rattle.ap_vr.specs.declared.line.Line.TheVariants as said
 use Rattle.ap_vr.specs.declared.reading.Lines.{Lines}
 use Rattle.ap_vr.specs.Answers.{IsNoLine}
 use Rattle.ap_vr.specs.LineForms.{line_in}
@@ -33,17 +33,17 @@ after_way false rest = omega arith
 
 pub line_some : (x : Line) → 0 < length (line_text x)
 unfolding clocked_text
-line_some (line.Module name) = omega arith
-line_some line.Clock = omega arith
-line_some line.Reset = omega arith
-line_some (line.Port p more) = after_way p.output _
-line_some line.Close = omega arith
-line_some (line.Wire n) = omega arith
-line_some (line.Reg n) = omega arith
-line_some (line.Assign a) = omega arith
-line_some (line.Always x) = omega arith
-line_some (line.Instance i) = omega arith
-line_some line.End = omega arith
+line_some (said.Module name) = omega arith
+line_some said.Clock = omega arith
+line_some said.Reset = omega arith
+line_some (said.Port p more) = after_way p.output _
+line_some said.Close = omega arith
+line_some (said.Wire n) = omega arith
+line_some (said.Reg n) = omega arith
+line_some (said.Assign a) = omega arith
+line_some (said.Always x) = omega arith
+line_some (said.Instance i) = omega arith
+line_some said.End = omega arith
 
 -- the first line of a text, where it is one
 some_rest : (rest : List ℕ) (x : Line) → IsSpelled (take (first_len rest) rest) x → rest ≢ []
@@ -73,22 +73,29 @@ no_line old none p at inside = (refl, by_case old.rest.now none inside) where
 
 -- what an inner line leads to
 pub after_inner : (p : Place) (x : Line) → number p.at ≢ 0 → is_due p.at p.top x ≡ true → place_after p x ≡ record { at = part_after x; top = p.top; began = p.began; next = p.next + 1 }
-after_inner p (line.Module name) inside due = absurd (inside (eqb-true (number p.at) 0 due))
-after_inner p line.Clock inside due = refl
-after_inner p line.Reset inside due = refl
-after_inner p (line.Port q more) inside due = refl
-after_inner p line.Close inside due = refl
-after_inner p (line.Wire n) inside due = refl
-after_inner p (line.Reg n) inside due = refl
-after_inner p (line.Assign a) inside due = refl
-after_inner p (line.Always x) inside due = refl
-after_inner p (line.Instance i) inside due = refl
-after_inner p line.End inside due = refl
+after_inner p (said.Module name) inside due = absurd (inside (eqb-true (number p.at) 0 due))
+after_inner p said.Clock inside due = refl
+after_inner p said.Reset inside due = refl
+after_inner p (said.Port q more) inside due = refl
+after_inner p said.Close inside due = refl
+after_inner p (said.Wire n) inside due = refl
+after_inner p (said.Reg n) inside due = refl
+after_inner p (said.Assign a) inside due = refl
+after_inner p (said.Always x) inside due = refl
+after_inner p (said.Instance i) inside due = refl
+after_inner p said.End inside due = refl
 
 -- past a line that is due
 pub bad_after : (p : Place) (old new : Lines) (x : Line) (line : ℕ) → TakesLine old x new → is_due p.at p.top x ≡ true → IsBadFrom (place_after p x) (text_lines new.rest.now) line → IsBadFrom p (text_lines old.rest.now) line
 bad_after p old new x line taken due bad =
     subst (λ lines. IsBadFrom p lines line) (sym taken.1.lines) (inr (x, record { spelled = taken.1.spelled; due = due }, bad))
+
+-- and back
+pub bad_before : (p : Place) (old new : Lines) (x : Line) (line : ℕ) → TakesLine old x new → is_due p.at p.top x ≡ true → IsBadFrom p (text_lines old.rest.now) line → IsBadFrom (place_after p x) (text_lines new.rest.now) line
+bad_before p old new x line taken due bad = ⊎_elim
+    (λ here. absurd (here.1 x (record { spelled = taken.1.spelled; due = due })))
+    (λ there. subst (λ y. IsBadFrom (place_after p y) (text_lines new.rest.now) line) (one_line taken.0 there.0 x there.1.spelled taken.1.spelled) there.2)
+    (subst (λ lines. IsBadFrom p lines line) taken.1.lines bad)
 
 -- a line that isn't due
 pub bad_here : (p : Place) (old new : Lines) (x : Line) → TakesLine old x new → p.next ≡ old.number → is_due p.at p.top x ≡ false → IsBadFrom p (text_lines old.rest.now) old.number

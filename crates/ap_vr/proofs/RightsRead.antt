@@ -28,10 +28,7 @@ both_read x y a b e f = ap (λ x. beside x y) e ∙ ap (λ y. beside (Some a) y)
 -- the first piece of a right side that begins with an operand is neither of two signs
 plain_first : (a : List ℕ) (rest : List (List ℕ)) (second : List ℕ) (m : Option Right) → IsWord a → plain_right_in second (a ∷ second ∷ rest) ≡ m → right_in (a ∷ second ∷ rest) ≡ m
 unfolding right_in right_by
-plain_first a rest second m word h =
-    ap (λ c. cond c (option_map (λ v. right.Not v) (operand_in second)) (cond (bytes_eq a (codes "{")) _ (plain_right_in second (a ∷ second ∷ rest)))) (not_sign a 126 [] word refl)
-    ∙ ap (λ c. cond c _ (plain_right_in second (a ∷ second ∷ rest))) (not_sign a 123 [] word refl)
-    ∙ h
+plain_first a rest second m word h = rw (not_sign a 126 [] word refl, not_sign a 123 [] word refl) h
 
 copy_read : (a : List ℕ) → IsOperand a → right_in (pieces_of (right_text (right.Copy a) ++ codes ";\n")) ≡ Some (right.Copy a)
 unfolding plain_right_in
@@ -129,6 +126,6 @@ right_read (right.Const width v) h = const_read width v h.0 h.1
 right_read (right.Copy a) h = copy_read a h
 right_read (right.Not a) h = not_read a h
 right_read (right.Two o a b) h = two_read o a b h.0 h.1
-right_read (right.Choose s a b) h = choose_read s a b h.0 h.1.0 h.1.1
+right_read (right.Choose s a b) h = choose_read s a b h.0 h.1 h.2
 right_read (right.Cat a b) h = cat_read a b h.0 h.1
-right_read (right.Slice a high low) h = slice_read a high low h.0 h.1.0 h.1.1
+right_read (right.Slice a high low) h = slice_read a high low h.0 h.1 h.2

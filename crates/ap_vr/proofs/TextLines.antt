@@ -9,13 +9,16 @@ len_line_feed b text h = ap (λ c. cond c 1 (first_len text + 1)) h
 pub len_other : (b : ℕ) (text : List ℕ) → (b == 10) ≡ false → first_len (b ∷ text) ≡ first_len text + 1
 len_other b text h = ap (λ c. cond c 1 (first_len text + 1)) h
 
+len_more : (b : ℕ) (text : List ℕ) → first_len text ≤ length text → first_len (b ∷ text) ≤ length (b ∷ text)
+len_more b text h = by_case (b == 10) refl where
+  by_case : (c : Bool) → (b == 10) ≡ c → first_len (b ∷ text) ≤ length (b ∷ text)
+  by_case true e = rw (len_line_feed b text e) (omega arith)
+  by_case false e = rw (len_other b text e) (omega (arith, h))
+
 -- the first line is within the text, and it has a byte where the text has one
 pub len_within : (text : List ℕ) → first_len text ≤ length text
 len_within [] = omega arith
-len_within (b ∷ text) = by_case (b == 10) refl where
-  by_case : (c : Bool) → (b == 10) ≡ c → first_len (b ∷ text) ≤ length (b ∷ text)
-  by_case true e = rw (len_line_feed b text e) (omega arith)
-  by_case false e = rw (len_other b text e) (omega (arith, len_within text))
+len_within (b ∷ text) = len_more b text (len_within text)
 
 pub len_some : (b : ℕ) (text : List ℕ) → 0 < first_len (b ∷ text)
 len_some b text = by_case (b == 10) refl where
@@ -33,20 +36,24 @@ take_suc n b text = rw add-one refl
 drop_suc : (n b : ℕ) (text : List ℕ) → drop (n + 1) (b ∷ text) ≡ drop n text
 drop_suc n b text = rw add-one refl
 
+-- a byte before a text whose first line is cut off
+led_cut : (b : ℕ) (text : List ℕ) → (text ≢ [] → text_lines text ≡ take (first_len text) text ∷ text_lines (drop (first_len text) text)) → led_by b (text_lines text) ≡ (b ∷ take (first_len text) text) ∷ text_lines (drop (first_len text) text)
+led_cut b [] h = refl
+led_cut b (c ∷ text) h = ap (led_by b) (h (not_nil c text))
+
+cut_more : (b : ℕ) (text : List ℕ) → led_by b (text_lines text) ≡ (b ∷ take (first_len text) text) ∷ text_lines (drop (first_len text) text) → text_lines (b ∷ text) ≡ take (first_len (b ∷ text)) (b ∷ text) ∷ text_lines (drop (first_len (b ∷ text)) (b ∷ text))
+cut_more b text led = by_case (b == 10) refl where
+  by_case : (c : Bool) → (b == 10) ≡ c → text_lines (b ∷ text) ≡ take (first_len (b ∷ text)) (b ∷ text) ∷ text_lines (drop (first_len (b ∷ text)) (b ∷ text))
+  by_case true e = ap (λ c. cond c ((b ∷ []) ∷ text_lines text) (led_by b (text_lines text))) e ∙ sym (ap (λ n. take n (b ∷ text) ∷ text_lines (drop n (b ∷ text))) (len_line_feed b text e))
+  by_case false e =
+      ap (λ c. cond c ((b ∷ []) ∷ text_lines text) (led_by b (text_lines text))) e
+      ∙ led
+      ∙ sym (ap (λ n. take n (b ∷ text) ∷ text_lines (drop n (b ∷ text))) (len_other b text e) ∙ ap (λ l. l ∷ text_lines (drop (first_len text + 1) (b ∷ text))) (take_suc (first_len text) b text) ∙ ap (λ l. (b ∷ take (first_len text) text) ∷ text_lines l) (drop_suc (first_len text) b text))
+
 -- a text's lines are its first line, and the lines of what is left
 pub lines_cut : (text : List ℕ) → text ≢ [] → text_lines text ≡ take (first_len text) text ∷ text_lines (drop (first_len text) text)
 lines_cut [] h = absurd (h refl)
-lines_cut (b ∷ text) h = by_case (b == 10) refl where
-  led : (rest : List ℕ) → rest ≡ text → led_by b (text_lines rest) ≡ (b ∷ take (first_len rest) rest) ∷ text_lines (drop (first_len rest) rest)
-  led [] e = refl
-  led (c ∷ rest) e = ap (led_by b) (lines_cut (c ∷ rest) (not_nil c rest))
-
-  by_case : (c : Bool) → (b == 10) ≡ c → text_lines (b ∷ text) ≡ take (first_len (b ∷ text)) (b ∷ text) ∷ text_lines (drop (first_len (b ∷ text)) (b ∷ text))
-  by_case true e = ap (λ c. cond c ((b ∷ []) ∷ text_lines text) (led_by b (text_lines text))) e ∙ sym (rw (len_line_feed b text e) refl)
-  by_case false e =
-      ap (λ c. cond c ((b ∷ []) ∷ text_lines text) (led_by b (text_lines text))) e
-      ∙ led text refl
-      ∙ sym (rw (len_other b text e) (ap (λ l. l ∷ text_lines (drop (first_len text + 1) (b ∷ text))) (take_suc (first_len text) b text) ∙ ap (λ l. (b ∷ take (first_len text) text) ∷ text_lines l) (drop_suc (first_len text) b text)))
+lines_cut (b ∷ text) h = cut_more b text (led_cut b text (lines_cut text))
 
 cut_at : (text : List ℕ) (i : ℕ) → i < length text → drop i text ≡ get_or text i 0 ∷ drop (i + 1) text
 cut_at text i h = rw add-one (drop-cons text i 0 h)

@@ -1,15 +1,16 @@
 -- The modules of a text, as far as a loop has read them.
-use Rattle.std.proofs.Common.{◌≡◌, ◌≢◌, ◌⊎◌, ℕ, ◌+◌, ◌<◌, ◌≤◌, Bool, true, false, List, [], ◌∷◌, ◌++◌, length, inl, inr, refl, sym, ap, subst, ◌∙◌, arith, append_assoc, append-nil, false≢true}
+use Rattle.std.proofs.Common.{◌≡◌, ◌≢◌, ◌⊎◌, ℕ, ◌+◌, ◌<◌, ◌≤◌, Bool, true, false, List, [], ◌∷◌, ◌++◌, length, inl, inr, refl, sym, ap, subst, ◌∙◌, arith, append_assoc, append-nil, true≢false}
 use Rattle.std.specs.Prelude.{codes}
 use Rattle.std.specs.List.{flat_map, AllByRecursion as Each}
 use Rattle.std.specs.Str.{bytes_eq}
+use Rattle.std.proofs.lemmas.Bool.{false≢true}
 use Rattle.std.proofs.lemmas.Grind.{flat_map-append}
 use Rattle.std.proofs.lemmas.List.{length-append}
 use Rattle.ap_vr.specs.declared.fault.NetFault.{NetFault}
 use Rattle.ap_vr.specs.declared.fault.NetFault.TheVariants.{NoMemory, At}
 use Rattle.ap_vr.specs.declared.fault.NetKind.TheVariants.{BadForm}
 use Rattle.ap_vr.specs.declared.line.Line.{Line}
-use Rattle.ap_vr.specs.declared.line.Line.TheVariants as line
+use Rattle.ap_vr.specs.declared.line.Line.TheVariants as said
 use Rattle.ap_vr.specs.declared.module.NamedModule.{NamedModule}
 use Rattle.ap_vr.specs.declared.place.Part.TheVariants as part
 use Rattle.ap_vr.specs.declared.reading.Lines.{Lines}
@@ -18,7 +19,7 @@ use Rattle.ap_vr.specs.Places.{Place, IsBadFrom, is_due, number, start}
 use Rattle.ap_vr.specs.Reading.{AreModulesOf, AreNumbered, EndsInTop, HasRoom, IsBadRead, IsModuleRead, IsNoModule, TakesLine, first_line, line_count, place_behind, place_in}
 use Rattle.ap_vr.specs.TextLines.{text_lines}
 use Rattle.ap_vr.proofs.Grown.{each_more}
-use Rattle.ap_vr.proofs.NextLine.{bad_after, bad_here}
+use Rattle.ap_vr.proofs.NextLine.{bad_after, bad_before, bad_here}
 use Rattle.ap_vr.proofs.Words.{same_bytes}
 
 -- the number of the line after some modules
@@ -44,24 +45,26 @@ place_between began top now = record { at = part.Start; top = top; began = began
 
 -- the modules so far, of which the last began in this line and is top or isn't
 pub record TextSoFar (text : List ℕ) (done : List NamedModule) (began : ℕ) (top : Bool) (now : Lines) : Type 0 where
-  pub text : text ≡ named_text done ++ now.rest.now
+  pub spelled : text ≡ named_text done ++ now.rest.now
   pub rules : Each IsNamedModule done
   pub numbers : AreNumbered 1 done
   pub next : now.number ≡ line_after 1 done
-  pub top : top ≡ true → EndsInTop done
+  pub ends : top ≡ true → EndsInTop done
   pub room : HasRoom now
   pub bad : (line : ℕ) → IsBadFrom (place_between began top now) (text_lines now.rest.now) line → IsBadFrom start (text_lines text) line
+  pub back : (line : ℕ) → IsBadFrom start (text_lines text) line → IsBadFrom (place_between began top now) (text_lines now.rest.now) line
 
 -- before the first module
 pub text_begins : (text : List ℕ) (now : Lines) → now.rest.now ≡ text → now.number ≡ 1 → length text ≤ 67108864 → TextSoFar text [] 1 false now
 text_begins text now rest n short = record {
-  text = sym rest;
+  spelled = sym rest;
   rules = tt;
   numbers = tt;
   next = n;
-  top = λ h. absurd (false≢true h);
+  ends = λ h. absurd (false≢true h);
   room = (let e : length now.rest.now ≡ length text = ap length rest in omega (arith, n, e, short));
   bad = λ line bad. subst (λ n. IsBadFrom (record { at = part.Start; top = false; began = 1; next = n }) (text_lines text) line) n (subst (λ rest. IsBadFrom (place_between 1 false now) (text_lines rest) line) rest bad);
+  back = λ line bad. subst (λ rest. IsBadFrom (place_between 1 false now) (text_lines rest) line) (sym rest) (subst (λ n. IsBadFrom (record { at = part.Start; top = false; began = 1; next = n }) (text_lines text) line) (sym n) bad);
 }
 
 -- after its first line a module has room
@@ -71,15 +74,16 @@ room_after now mid x room taken =
     omega (arith, room, taken.1.number, taken.1.some, length_now)
 
 -- one more module
-pub text_grows : (text : List ℕ) (done : List NamedModule) (began : ℕ) (top : Bool) (now mid new : Lines) (name : List ℕ) (m : NamedModule) → TextSoFar text done began top now → TakesLine now (line.Module name) mid → IsModuleRead now.number name mid m new → HasRoom new → TextSoFar text (done ++ m ∷ []) now.number (bytes_eq name (codes "top")) new
+pub text_grows : (text : List ℕ) (done : List NamedModule) (began : ℕ) (top : Bool) (now mid new : Lines) (name : List ℕ) (m : NamedModule) → TextSoFar text done began top now → TakesLine now (said.Module name) mid → IsModuleRead now.number name mid m new → HasRoom new → TextSoFar text (done ++ m ∷ []) now.number (bytes_eq name (codes "top")) new
 text_grows text done began top now mid new name m far taken read room = record {
-  text = far.text ∙ ap (λ t. named_text done ++ t) rest ∙ sym (append_assoc (named_text done) (named_module_text m) new.rest.now) ∙ ap (λ t. t ++ new.rest.now) (sym more);
+  spelled = far.spelled ∙ ap (λ t. named_text done ++ t) rest ∙ sym (append_assoc (named_text done) (named_module_text m) new.rest.now) ∙ ap (λ t. t ++ new.rest.now) (sym more);
   rules = each_more IsNamedModule done m far.rules read.rules;
   numbers = numbered_more 1 done m far.numbers (read.begins ∙ far.next);
   next = read.ends ∙ ap (λ n. n + line_count m) far.next ∙ sym (line_after_more 1 done m);
-  top = λ e. top_more done m (read.named ∙ same_bytes name (codes "top") e);
+  ends = λ e. top_more done m (read.named ∙ same_bytes name (codes "top") e);
   room = room;
-  bad = λ line bad. far.bad line (bad_after (place_between began top now) now mid (line.Module name) line taken refl (subst (λ p. IsBadFrom p (text_lines mid.rest.now) line) place (read.bad line bad)));
+  bad = λ line bad. far.bad line (bad_after (place_between began top now) now mid (said.Module name) line taken refl (subst (λ p. IsBadFrom p (text_lines mid.rest.now) line) place (read.bad line bad)));
+  back = λ line bad. read.back line (subst (λ p. IsBadFrom p (text_lines mid.rest.now) line) (sym place) (bad_before (place_between began top now) now mid (said.Module name) line taken refl (far.back line bad)));
 } where
   rest : now.rest.now ≡ named_module_text m ++ new.rest.now
   rest = taken.1.text ∙ ap (λ t. t ++ mid.rest.now) taken.1.spelled.1 ∙ ap (λ t. first_line name ++ t) read.text ∙ sym (append_assoc (first_line name) read.body new.rest.now) ∙ ap (λ t. t ++ new.rest.now) read.whole
@@ -98,11 +102,11 @@ text_without_module text done began top now (At line kind) far some none =
     (bad.0, far.bad line bad.1)
 
 -- a module that isn't whole
-pub text_breaks_off : (text : List ℕ) (done : List NamedModule) (began : ℕ) (top : Bool) (now mid : Lines) (name : List ℕ) (fault : NetFault) → TextSoFar text done began top now → TakesLine now (line.Module name) mid → IsBadRead (place_in now.number name mid) mid.rest.now fault → IsBadRead start text fault
+pub text_breaks_off : (text : List ℕ) (done : List NamedModule) (began : ℕ) (top : Bool) (now mid : Lines) (name : List ℕ) (fault : NetFault) → TextSoFar text done began top now → TakesLine now (said.Module name) mid → IsBadRead (place_in now.number name mid) mid.rest.now fault → IsBadRead start text fault
 text_breaks_off text done began top now mid name NoMemory far taken h = tt
 text_breaks_off text done began top now mid name (At line kind) far taken h = (
   h.0,
-  far.bad line (bad_after (place_between began top now) now mid (line.Module name) line taken refl
+  far.bad line (bad_after (place_between began top now) now mid (said.Module name) line taken refl
       (subst (λ n. IsBadFrom (record { at = part.Clock; top = bytes_eq name (codes "top"); began = now.number; next = n }) (text_lines mid.rest.now) line) taken.1.number h.1)),
 )
 
@@ -114,26 +118,32 @@ text_ends_badly text done began now far none =
 -- all modules
 pub text_ends : (text : List ℕ) (done : List NamedModule) (began : ℕ) (now : Lines) → TextSoFar text done began true now → now.rest.now ≡ [] → AreModulesOf text done
 text_ends text done began now far none = record {
-  text = far.text ∙ ap (λ t. named_text done ++ t) none ∙ append-nil (named_text done);
+  spelled = far.spelled ∙ ap (λ t. named_text done ++ t) none ∙ append-nil (named_text done);
   rules = far.rules;
   numbers = far.numbers;
-  top = far.top refl;
+  top = far.ends refl;
 }
 
+-- and the text is of the form
+pub text_is_well_formed : (text : List ℕ) (done : List NamedModule) (began : ℕ) (now : Lines) → TextSoFar text done began true now → now.rest.now ≡ [] → (line : ℕ) → IsBadFrom start (text_lines text) line → ⊥
+text_is_well_formed text done began now far none line bad =
+    let ends = subst (λ rest. IsBadFrom (place_between began true now) (text_lines rest) line) none (far.back line bad) in
+    true≢false (ends.0 refl).0
+
 -- where the first line of a module is due, no other is
-due_at_start : (p : Place) (x : Line) → number p.at ≡ 0 → ((name : List ℕ) → x ≡ line.Module name → ⊥) → is_due p.at p.top x ≡ false
-due_at_start p (line.Module name) e other = absurd (other name refl)
-due_at_start p line.Clock e other = rw e refl
-due_at_start p line.Reset e other = rw e refl
-due_at_start p (line.Port q more) e other = rw e refl
-due_at_start p line.Close e other = rw e refl
-due_at_start p (line.Wire n) e other = rw e refl
-due_at_start p (line.Reg n) e other = rw e refl
-due_at_start p (line.Assign a) e other = rw e refl
-due_at_start p (line.Always x) e other = rw e refl
-due_at_start p (line.Instance i) e other = rw e refl
-due_at_start p line.End e other = rw e refl
+due_at_start : (p : Place) (x : Line) → number p.at ≡ 0 → ((name : List ℕ) → x ≡ said.Module name → ⊥) → is_due p.at p.top x ≡ false
+due_at_start p (said.Module name) e other = absurd (other name refl)
+due_at_start p said.Clock e other = rw e refl
+due_at_start p said.Reset e other = rw e refl
+due_at_start p (said.Port q more) e other = rw e refl
+due_at_start p said.Close e other = rw e refl
+due_at_start p (said.Wire n) e other = rw e refl
+due_at_start p (said.Reg n) e other = rw e refl
+due_at_start p (said.Assign a) e other = rw e refl
+due_at_start p (said.Always x) e other = rw e refl
+due_at_start p (said.Instance i) e other = rw e refl
+due_at_start p said.End e other = rw e refl
 
 -- why the first line of a module isn't one
-pub no_module : (now new : Lines) (x : Line) → TakesLine now x new → ((name : List ℕ) → x ≡ line.Module name → ⊥) → IsNoModule now (At now.number BadForm)
+pub no_module : (now new : Lines) (x : Line) → TakesLine now x new → ((name : List ℕ) → x ≡ said.Module name → ⊥) → IsNoModule now (At now.number BadForm)
 no_module now new x taken other p at start some = (refl, bad_here p now new x taken at (due_at_start p x start other))

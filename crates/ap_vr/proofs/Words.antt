@@ -38,9 +38,10 @@ some_byte (b ∷ name) h = omega arith
 
 pub name_word : (name : List ℕ) → IsNetName name → IsWord name
 name_word name h =
-    let first = and_parts (starts_with_letter name) (list_all is_name_byte name && (nat_le (length name) 100 && not (list_any (bytes_eq name) barred_words))) h in
-    let second = and_parts (list_all is_name_byte name) (nat_le (length name) 100 && not (list_any (bytes_eq name) barred_words)) first.1 in
-    record { all = second.0; some = some_byte name first.0 }
+    let short = and_parts (starts_with_letter name && list_all is_name_byte name && nat_le (length name) 100) (not (list_any (bytes_eq name) barred_words)) h in
+    let long = and_parts (starts_with_letter name && list_all is_name_byte name) (nat_le (length name) 100) short.0 in
+    let both = and_parts (starts_with_letter name) (list_all is_name_byte name) long.0 in
+    record { all = both.1; some = some_byte name both.0 }
 
 -- and no sign
 pub not_sign : (name : List ℕ) (b : ℕ) (bytes : List ℕ) → IsWord name → is_name_byte b ≡ false → bytes_eq name (b ∷ bytes) ≡ false
@@ -60,8 +61,8 @@ name_read name h = ap (λ c. cond c (Some name) None) h
 pub operand_read : (name : List ℕ) → IsOperand name → operand_in name ≡ Some name
 unfolding operand_in
 operand_read name h =
-    ap (λ c. cond c None (cond (bytes_eq name (codes "rst")) None (name_in name))) (other_bytes name (codes "clk") h.1.0)
-    ∙ ap (λ c. cond c None (name_in name)) (other_bytes name (codes "rst") h.1.1)
+    ap (λ c. cond c None (cond (bytes_eq name (codes "rst")) None (name_in name))) (other_bytes name (codes "clk") h.1)
+    ∙ ap (λ c. cond c None (name_in name)) (other_bytes name (codes "rst") h.2)
     ∙ name_read name h.0
 
 -- a decimal number is a word, and is read with its value

@@ -1,7 +1,8 @@
 -- What reading a line, and reading the lines of a module, answers.
-use Rattle.std.specs.Prelude.{◌≡◌, ◌≢◌, ◌⊎◌, ℕ, ◌+◌, ◌<◌, ◌≤◌, List, [], ◌∷◌, ◌++◌, length, codes, Bool}
+use Rattle.std.specs.Prelude.{MatchBool, nat_lt, ◌≡◌, ◌≢◌, ◌⊎◌, ℕ, ◌+◌, ◌<◌, ◌≤◌, List, [], ◌∷◌, ◌++◌, length, codes, Bool}
 use Rattle.std.specs.List.{AllByRecursion as Each}
 use Rattle.std.specs.Str.{bytes_eq}
+use Rattle.ap_vr.specs.declared.fault.TheConstants.{TEXT_LIMIT}
 use Rattle.ap_vr.specs.declared.fault.NetFault.{NetFault}
 use Rattle.ap_vr.specs.declared.fault.NetFault.TheVariants.{NoMemory, At}
 use Rattle.ap_vr.specs.declared.fault.NetKind.TheVariants.{BadForm}
@@ -12,7 +13,7 @@ use Rattle.ap_vr.specs.declared.place.Part.TheVariants as part
 use Rattle.ap_vr.specs.declared.reading.Lines.{Lines}
 use Rattle.ap_vr.specs.LineTexts.{IsSpelled}
 use Rattle.ap_vr.specs.Named.{IsNamedModule, named_module_text, named_text}
-use Rattle.ap_vr.specs.Places.{Place, IsBadFrom, number}
+use Rattle.ap_vr.specs.Places.{Place, IsBadFrom, number, start}
 use Rattle.ap_vr.specs.TextLines.{text_lines}
 
 -- the numbers of all lines that are left are small
@@ -51,6 +52,23 @@ place_in first name lines = record { at = part.Clock; top = bytes_eq name (codes
 abbrev pub place_behind : ℕ → List ℕ → Lines → Place
 place_behind first name lines = record { at = part.Start; top = bytes_eq name (codes "top"); began = first; next = lines.number }
 
+-- the most bytes that a netlist's text may have
+abbrev pub text_limit : ℕ
+text_limit = TEXT_LIMIT
+
+-- a text isn't of the form of a netlist, and this is where that shows: line 0 where it is too long
+abbrev pub HasBadForm : List ℕ → ℕ → Type 0
+HasBadForm text line = MatchBool (nat_lt text_limit (length text)) (line ≡ 0) (IsBadFrom start (text_lines text) line)
+
+-- why a text gave no modules: it isn't of the form, or memory ran out
+abbrev pub IsFormFault : List ℕ → NetFault → Type 0
+IsFormFault text (At line kind) = (kind ≡ BadForm) × HasBadForm text line
+IsFormFault text NoMemory = Unit {0}
+
+-- a text of the form of a netlist
+abbrev pub IsWellFormed : List ℕ → Type 0
+IsWellFormed text = (line : ℕ) → HasBadForm text line → ⊥
+
 -- how many lines a module has
 abbrev pub line_count : NamedModule → ℕ
 line_count m = 5 + length m.ports + length m.wires + length m.regs + length m.assigns + length m.nexts + length m.instances
@@ -69,6 +87,7 @@ pub record IsModuleRead (first : ℕ) (name : List ℕ) (old : Lines) (m : Named
   pub whole : first_line name ++ body ≡ named_module_text m
   pub ends : new.number ≡ first + line_count m
   pub bad : (line : ℕ) → IsBadFrom (place_behind first name new) (text_lines new.rest.now) line → IsBadFrom (place_in first name old) (text_lines old.rest.now) line
+  pub back : (line : ℕ) → IsBadFrom (place_in first name old) (text_lines old.rest.now) line → IsBadFrom (place_behind first name new) (text_lines new.rest.now) line
 
 -- the modules begin in lines of these numbers, the first of them in this one
 abbrev pub AreNumbered : ℕ → List NamedModule → Type 0
@@ -83,7 +102,7 @@ EndsInTop (m ∷ n ∷ modules) = EndsInTop (n ∷ modules)
 
 -- the text is these modules, one after another
 pub record AreModulesOf (text : List ℕ) (modules : List NamedModule) : Type 0 where
-  pub text : text ≡ named_text modules
+  pub spelled : text ≡ named_text modules
   pub rules : Each IsNamedModule modules
   pub numbers : AreNumbered 1 modules
   pub top : EndsInTop modules

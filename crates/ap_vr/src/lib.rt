@@ -8,8 +8,10 @@ mod line_text;
 pub mod module;
 mod piece;
 mod place;
-pub mod reading;
+mod reading;
 mod token;
 mod unread;
 
 pub use fault::{NetFault, NetKind, TEXT_LIMIT};
+pub use module::NamedModule;
+pub use reading::read_modules;

@@ -174,7 +174,7 @@ fn input(alloc: Global, pieces: &[&[u8]]) -> Result<Line, Unread>
 }
 
 /// The pieces from this place on.
-fn after<'a, 'b>(pieces: &'b [&'a [u8]], place: usize) -> &'b [&'a [u8]]
+fn after<'a>(pieces: &'a [&'a [u8]], place: usize) -> &'a [&'a [u8]]
     ensures { texts result.now ≡ drop place (texts pieces.now) }
 {
     pieces.get(place..).unwrap_or(&[])

@@ -44,13 +44,14 @@ impl NamedModule {
         ensures { OnOk result (self.new ≡ grown self.old line) }
     {
         match line {
-            Line::Port { port, .. } => self.ports.push(port)?,
+            Line::Port { port, more: _more } => self.ports.push(port)?,
             Line::Wire(wire) => self.wires.push(wire)?,
             Line::Reg(register) => self.regs.push(register)?,
             Line::Assign(assign) => self.assigns.push(assign)?,
             Line::Always(next) => self.nexts.push(next)?,
             Line::Instance(instance) => self.instances.push(instance)?,
-            Line::Module(_) | Line::Clock | Line::Reset | Line::Close | Line::End => {}
+            Line::Module(_name) => {}
+            Line::Clock | Line::Reset | Line::Close | Line::End => {}
         }
         Ok(())
     }

@@ -4,11 +4,10 @@ ghost use Rattle.ap_net.specs.Names.{IsNetName};
 ghost use Rattle.ap_vr.specs.declared.fault.NetFault.TheVariants as fault;
 ghost use Rattle.ap_vr.specs.declared.fault.NetKind.TheVariants as kind;
 ghost use Rattle.ap_vr.specs.declared.line.Line.TheVariants as said;
-ghost use Rattle.ap_vr.specs.Places.{start};
-ghost use Rattle.ap_vr.specs.Reading.{AreModulesOf, HasRoom, IsBadRead, IsModuleRead, IsNoModule, IsNoNext, TakesLine, place_in};
+ghost use Rattle.ap_vr.specs.Reading.{AreModulesOf, HasRoom, IsBadRead, IsFormFault, IsModuleRead, IsNoModule, IsNoNext, IsWellFormed, TakesLine, place_in, text_limit};
 ghost use Rattle.ap_vr.specs.TextLines.{first_len};
 
-use crate::fault::{NetFault, NetKind, at};
+use crate::fault::{NetFault, NetKind, TEXT_LIMIT, at};
 use crate::line::Line;
 use crate::line_reading::read_line;
 use crate::module::NamedModule;
@@ -105,10 +104,11 @@ fn module_name(lines: &mut Lines, alloc: Global) -> Result<NetName, NetFault>
 }
 
 /// The modules of a text that isn't too long.
-pub fn read_modules(alloc: Global, text: &[u8]) -> Result<Vec<NamedModule>, NetFault>
-    requires { length text.now ≤ 67108864 }
-    ensures ok { IfOk result (λ modules. AreModulesOf text.now modules.items) }
-    ensures err { IfErr result (IsBadRead start text.now) }
+fn read_short(alloc: Global, text: &[u8]) -> Result<Vec<NamedModule>, NetFault>
+    requires { length text.now ≤ text_limit }
+    ensures well_formed { IfOk result (λ _. IsWellFormed text.now) }
+    ensures modules { IfOk result (λ modules. AreModulesOf text.now modules.items) }
+    ensures refused { IfErr result (IsFormFault text.now) }
 {
     let mut modules = Vec::new(alloc);
     let mut lines = Lines {
@@ -128,4 +128,24 @@ pub fn read_modules(alloc: Global, text: &[u8]) -> Result<Vec<NamedModule>, NetF
         return Err(bad(began));
     }
     Ok(modules)
+}
+
+/// Reads the modules of a netlist's text, by the names that stand in its lines.
+///
+/// `BadForm` comes exactly where the text isn't of the form of a netlist, and names the first line that
+/// isn't due in its place; where the text ends early, the line in which it ends; where all lines are due
+/// and the last module isn't `top`, that module's first line; and line 0 where the text has more than
+/// 67,108,864 bytes. No other fault comes. `NoMemory` comes only where memory ran out. The time goes with
+/// the number of bytes.
+pub fn read_modules(alloc: Global, text: &[u8]) -> Result<Vec<NamedModule>, NetFault>
+    // A text that is accepted is of the form, and it is the text of these modules. One that is refused
+    // isn't, and this is the line where that shows.
+    ensures well_formed { IfOk result (λ _. IsWellFormed text.now) }
+    ensures modules { IfOk result (λ modules. AreModulesOf text.now modules.items) }
+    ensures refused { IfErr result (IsFormFault text.now) }
+{
+    if text.len() > TEXT_LIMIT {
+        return Err(bad(0));
+    }
+    read_short(alloc, text)
 }

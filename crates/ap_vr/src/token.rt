@@ -90,15 +90,19 @@ pub(crate) fn name_in(alloc: Global, piece: &[u8]) -> Result<NetName, Unread>
 }
 
 /// The name that a piece is, where it may be read or connected: `clk` and `rst` may not.
-#[tactic(auto, unfolding(crate::specs::LineForms::operand_in))]
+#[tactic(auto, using(crate::proofs::Operands::operand_rules), unfolding(crate::specs::LineForms::operand_in))]
 pub(crate) fn operand_in(alloc: Global, piece: &[u8]) -> Result<NetName, Unread>
     ensures found { Answers result (forms.operand_in piece.now) }
     ensures rules { IfOk result IsOperand }
 {
-    if is(piece, "clk") || is(piece, "rst") {
+    if is(piece, "clk") {
         return Err(Unread::NoForm);
     }
-    name_in(alloc, piece)
+    if is(piece, "rst") {
+        return Err(Unread::NoForm);
+    }
+    let name = name_in(alloc, piece)?;
+    Ok(name)
 }
 
 /// The number that a piece is.

@@ -1,26 +1,52 @@
 //! Each line of the small text dropped, doubled and exchanged with its neighbour, and lines in another's place.
-use crate::texts::{expect, gate, small};
+use crate::texts::{Due, expect, gate, small};
 use std::alloc::Global;
 use std::process::Abort;
 use std::test::Fail;
 
-type Due = Option<(&'static str, u32)>;
-
-/// The lines of the small text.
-fn lines(alloc: Global) -> Result<Vec<&'static str>, Fail> {
-    let mut lines = Vec::new(alloc);
-    for line in small().lines() {
-        lines.push(line)?;
-    }
-    Ok(lines)
+/// Adds a line to a text.
+fn push(text: &mut String, line: &str) -> Result<(), Fail> {
+    text.push_str(line)?;
+    text.push_str("\n")?;
+    Ok(())
 }
 
-/// The text of lines.
-fn text(alloc: Global, lines: &[&str]) -> Result<String, Fail> {
+/// The small text without the line of this place, counted from 0.
+fn text_without(alloc: Global, place: usize) -> Result<String, Fail> {
     let mut text = String::new(alloc);
-    for line in lines {
-        text.push_str(line)?;
-        text.push_str("\n")?;
+    for (i, line) in small().lines().enumerate() {
+        if i != place {
+            push(&mut text, line)?;
+        }
+    }
+    Ok(text)
+}
+
+/// The small text with the line of this place twice.
+fn text_doubled(alloc: Global, place: usize) -> Result<String, Fail> {
+    let mut text = String::new(alloc);
+    for (i, line) in small().lines().enumerate() {
+        push(&mut text, line)?;
+        if i == place {
+            push(&mut text, line)?;
+        }
+    }
+    Ok(text)
+}
+
+/// The small text with the line of this place after the next one.
+fn text_exchanged(alloc: Global, place: usize) -> Result<String, Fail> {
+    let mut text = String::new(alloc);
+    let mut held = "";
+    for (i, line) in small().lines().enumerate() {
+        if i == place {
+            held = line;
+        } else {
+            push(&mut text, line)?;
+        }
+        if i > 0 && i - 1 == place {
+            push(&mut text, held)?;
+        }
     }
     Ok(text)
 }
@@ -115,10 +141,8 @@ fn exchanged() -> [Due; 22] {
 fn lines_dropped(rt: HostRuntime) -> Result<(), Fail> {
     let alloc = rt.alloc();
     for (place, due) in without().iter().enumerate() {
-        let mut lines = lines(alloc)?;
-        let dropped = lines.remove(place);
-        let text = text(alloc, &lines)?;
-        expect(&rt, alloc, text.as_bytes(), *due, dropped)?;
+        let text = text_without(alloc, place)?;
+        expect(&rt, alloc, text.as_bytes(), *due, "a line dropped")?;
     }
     Ok(())
 }
@@ -127,11 +151,8 @@ fn lines_dropped(rt: HostRuntime) -> Result<(), Fail> {
 fn lines_doubled(rt: HostRuntime) -> Result<(), Fail> {
     let alloc = rt.alloc();
     for (place, due) in doubled().iter().enumerate() {
-        let mut lines = lines(alloc)?;
-        let line = lines[place];
-        lines.insert(place, line)?;
-        let text = text(alloc, &lines)?;
-        expect(&rt, alloc, text.as_bytes(), *due, line)?;
+        let text = text_doubled(alloc, place)?;
+        expect(&rt, alloc, text.as_bytes(), *due, "a line doubled")?;
     }
     Ok(())
 }
@@ -140,11 +161,8 @@ fn lines_doubled(rt: HostRuntime) -> Result<(), Fail> {
 fn lines_exchanged(rt: HostRuntime) -> Result<(), Fail> {
     let alloc = rt.alloc();
     for (place, due) in exchanged().iter().enumerate() {
-        let mut lines = lines(alloc)?;
-        let line = lines.remove(place);
-        lines.insert(place + 1, line)?;
-        let text = text(alloc, &lines)?;
-        expect(&rt, alloc, text.as_bytes(), *due, line)?;
+        let text = text_exchanged(alloc, place)?;
+        expect(&rt, alloc, text.as_bytes(), *due, "a line exchanged")?;
     }
     Ok(())
 }
@@ -154,12 +172,10 @@ fn lines_exchanged(rt: HostRuntime) -> Result<(), Fail> {
 fn proper_fronts(rt: HostRuntime) -> Result<(), Fail> {
     let alloc = rt.alloc();
     let whole = small().as_bytes();
-    let mut line = 1;
     for place in 0..whole.len() {
-        expect(&rt, alloc, &whole[..place], Some(("V1", line)), "a front")?;
-        if whole[place] == b'\n' {
-            line += 1;
-        }
+        let front = &whole[..place];
+        let feeds = front.iter().filter(|byte| **byte == b'\n').count();
+        expect(&rt, alloc, front, Some(("V1", feeds + 1)), "a front")?;
     }
     expect(&rt, alloc, whole, None, "the whole")
 }

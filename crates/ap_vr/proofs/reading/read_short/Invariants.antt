@@ -1,6 +1,6 @@
 use Rattle.std.proofs.Common.{length}
 use Rattle.ap_vr.proofs.TextRead.{TextSoFar}
-use Rattle.ap_vr.proofs.reading.read_modules.Given as goal
+use Rattle.ap_vr.proofs.reading.read_short.Given as goal
 
 abbrev pub invariant-loop-lines : goal.invariant-loop-lines
 invariant-loop-lines l = TextSoFar l.text l.modules.items l.began l.ends_in_top l.lines

@@ -1,0 +1,32 @@
+-- Which line bytes spell, by the line that their pieces give.
+use Rattle.std.proofs.Common.{◌≡◌, ◌≢◌, ℕ, List, Option, Some, None, refl, sym, ap, ◌∙◌}
+use Rattle.std.proofs.lemmas.Option.{same_Some}
+use Rattle.ap_vr.specs.declared.line.Line.{Line}
+use Rattle.ap_vr.specs.declared.unread.Unread.{Unread}
+use Rattle.ap_vr.specs.declared.unread.Unread.TheVariants.{NoForm, NoMemory}
+use Rattle.ap_vr.specs.Answers.{IsNoLine, IsUnread}
+use Rattle.ap_vr.specs.LineForms.{line_in}
+use Rattle.ap_vr.specs.LineTexts.{IsLine, line_text}
+use Rattle.ap_vr.specs.Pieces.{pieces_of}
+use Rattle.ap_vr.proofs.LinesRead.{line_read}
+
+some_line : (bytes : List ℕ) (x : Line) → IsLine x → bytes ≡ line_text x → line_in (pieces_of bytes) ≡ Some x
+some_line bytes x rules e = ap (λ bytes. line_in (pieces_of bytes)) e ∙ line_read x rules
+
+none_some : {A : Type 0} (x : A) (found : Option A) → found ≡ None → found ≡ Some x → ⊥
+none_some x found h g = cc
+
+-- pieces that give none are of none
+pub no_line_found : (bytes : List ℕ) → line_in (pieces_of bytes) ≡ None → IsNoLine bytes
+no_line_found bytes h x rules e = none_some x (line_in (pieces_of bytes)) h (some_line bytes x rules e)
+
+-- and so are bytes that aren't the text of the line that their pieces give
+pub other_line_found : (bytes : List ℕ) (found : Line) → line_in (pieces_of bytes) ≡ Some found → bytes ≢ line_text found → IsNoLine bytes
+other_line_found bytes found h wrong x rules e =
+    let same : found ≡ x = same_Some found x (sym h ∙ some_line bytes x rules e) in
+    wrong (e ∙ ap line_text (sym same))
+
+-- why nothing was found
+pub nothing_found : (bytes : List ℕ) (why : Unread) → (why ≡ NoForm → line_in (pieces_of bytes) ≡ None) → IsUnread bytes why
+nothing_found bytes NoForm h = no_line_found bytes (h refl)
+nothing_found bytes NoMemory h = tt

@@ -1,0 +1,2 @@
+mod NetText
+mod Written

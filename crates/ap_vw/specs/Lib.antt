@@ -1,0 +1,3 @@
+pub mod NetLines
+pub mod LeftLines
+pub mod Printing
