@@ -1,13 +1,15 @@
 mod Regroup
-mod Pieces
+pub mod Pieces
 mod Words
 pub mod Operands
+pub mod Afters
+pub mod Joins
 mod RightsRead
 mod LinesRead
-mod LineFound
-mod TextLines
+pub mod LineFound
+pub mod TextLines
 mod Fronts
 mod Grown
-mod NextLine
-mod ModuleRead
-mod TextRead
+pub mod NextLine
+pub mod ModuleRead
+pub mod TextRead

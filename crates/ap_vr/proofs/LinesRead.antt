@@ -93,7 +93,7 @@ unfolding line_in line_by inner_line_in next_in clocked_text
 always_read x h =
     ap (λ ps. line_in (always_lead ps)) (ap pieces_of first ∙ first_pieces)
     ∙ ap (λ found. option_map (λ x. line.Always x) (option_map (λ v. record { register = v.0; width = v.1.0; reset = v.1.1.0; from = v.1.1.1 }) found))
-    (both_read (name_in x.register) (beside (option_and_then if_width (number_value (decimal x.width))) (beside (digits_after (100 ∷ decimal x.reset)) (operand_in x.from))) x.register (x.width, x.reset, x.from) (name_read x.register h.0)
+    (both_read (name_in x.register) (beside (option_and_then if_width (number_value (decimal x.width))) (beside (digits_after (100 ∷ decimal x.reset)) (operand_in x.from))) x.register (x.width, (x.reset, x.from)) (name_read x.register h.0)
     (both_read (option_and_then if_width (number_value (decimal x.width))) (beside (digits_after (100 ∷ decimal x.reset)) (operand_in x.from)) x.width (x.reset, x.from) (width_read x.width h.1)
     (both_read (digits_after (100 ∷ decimal x.reset)) (operand_in x.from) x.reset x.from (value_read x.reset h.2) (operand_read x.from h.3)))) where
       first : taken_text x.register (reset_text x) ++ codes " else " ++ taken_text x.register x.from ++ codes "\n" ≡ x.register ++ 32 ∷ 60 ∷ 61 ∷ 32 ∷ (reset_text x ++ 59 ∷ (codes " else " ++ x.register ++ 32 ∷ 60 ∷ 61 ∷ 32 ∷ (x.from ++ 59 ∷ 10 ∷ [])))

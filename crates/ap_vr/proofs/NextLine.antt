@@ -4,7 +4,7 @@ use Rattle.std.specs.Prelude.{if◌then◌else◌, codes}
 use Rattle.std.proofs.lemmas.List.{take-append-drop}
 use Rattle.std.proofs.lemmas.Bool.{eqb-true}
 use Rattle.std.proofs.lemmas.Option.{same_Some}
-use Rattle.ap_net.specs.Text.{clocked_text}
+use Rattle.ap_net.specs.Text.{clocked_text, range_text}
 use Rattle.ap_net.specs.declared.net.Port.{Port}
 use Rattle.ap_vr.specs.declared.fault.NetFault.{NetFault}
 use Rattle.ap_vr.specs.declared.fault.NetFault.TheVariants.{NoMemory, At}
@@ -27,16 +27,16 @@ pub one_line : (bytes : List ℕ) (x y : Line) → IsSpelled bytes x → IsSpell
 one_line bytes x y h g = same_Some x y (sym (line_read x h.0) ∙ ap (λ bytes. line_in (pieces_of bytes)) (sym h.1 ∙ g.1) ∙ line_read y g.0)
 
 -- a line has a byte
-after_way : (output : Bool) (rest : List ℕ) → 0 < length ((if output then codes "  output " else codes "  input ") ++ rest)
-after_way true rest = omega arith
-after_way false rest = omega arith
+after_way : (output : Bool) (a b c d : List ℕ) → 0 < length ((if output then codes "  output " else codes "  input ") ++ a ++ b ++ c ++ d)
+after_way true a b c d = omega arith
+after_way false a b c d = omega arith
 
 pub line_some : (x : Line) → 0 < length (line_text x)
 unfolding clocked_text
 line_some (said.Module name) = omega arith
 line_some said.Clock = omega arith
 line_some said.Reset = omega arith
-line_some (said.Port p more) = after_way p.output _
+line_some (said.Port p more) = after_way p.output (range_text p.width) (codes " ") p.name (if more then codes ",\n" else codes "\n")
 line_some said.Close = omega arith
 line_some (said.Wire n) = omega arith
 line_some (said.Reg n) = omega arith

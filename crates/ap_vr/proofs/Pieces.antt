@@ -1,14 +1,15 @@
 -- The pieces of a line, as far as a loop has come that cuts it, and those of a line that begins with a word.
-use Rattle.std.proofs.Common.{◌≡◌, ℕ, ◌+◌, ◌<◌, ◌≤◌, Bool, true, false, cond, ◌&&◌, List, [], ◌∷◌, ◌++◌, ◌-◌, length, get_or, take, drop, drop-cons, slice_range, map, refl, sym, ap, ◌∙◌, arith, add-one, append-nil, append_assoc, length-drop}
+use Rattle.std.proofs.Common.{◌≡◌, ℕ, ◌+◌, ◌<◌, ◌≤◌, Bool, true, false, cond, ◌&&◌, List, [], ◌∷◌, ◌++◌, ◌-◌, length, get_or, take, drop, drop-cons, slice_range, map, refl, sym, ap, subst, ◌∙◌, arith, add-one, append-nil, append_assoc, length-drop}
 use Rattle.std.specs.List.{list_all}
 use Rattle.std.specs.Borrow.{Bor}
-use Rattle.std.proofs.lemmas.Bool.{and_parts}
+use Rattle.std.specs.Prelude.{if◌then◌else◌, nat_lt}
+use Rattle.std.proofs.lemmas.Bool.{and_parts, ltb-true, ltb-false}
 use Rattle.std.proofs.Math.Seq.{take-length, drop-length}
 use Rattle.std.proofs.lemmas.List.{take_more, get_or-drop}
 use Rattle.std.proofs.lemmas.List.Edits.{length-between}
 use Rattle.std.proofs.lemmas.List.Folds.{drop_split}
 use Rattle.ap_net.specs.Names.{is_name_byte}
-use Rattle.ap_vr.specs.Pieces.{after_word, pieces_after, pieces_of, texts}
+use Rattle.ap_vr.specs.Pieces.{after_word, last_word, pieces_after, pieces_of, texts, word_between}
 
 -- a byte of a word, and one that is none
 pub piece_more : (word : List ℕ) (b : ℕ) (line : List ℕ) → is_name_byte b ≡ true → pieces_after word (b ∷ line) ≡ pieces_after (word ++ b ∷ []) line
@@ -71,7 +72,7 @@ part_nothing xs at = let e : at - at ≡ 0 = omega arith in rw e refl
 
 -- before the first byte
 pub pieces_begin : (line : List ℕ) → PiecesSoFar line [] 0 0
-pieces_begin line = record { order = omega arith; word = rw (part_nothing line 0) refl; gives = refl }
+pieces_begin line = record { order = omega arith; word = refl; gives = refl }
 
 -- a byte of a word
 pub pieces_go_on : (line : List ℕ) (pieces : List (List ℕ)) (from at : ℕ) → PiecesSoFar line pieces from at → at < length line → is_name_byte (get_or line at 0) ≡ true → PiecesSoFar line pieces from (at + 1)
@@ -114,6 +115,16 @@ pieces_after_sign line pieces at far h e = record {
       ∙ far.gives;
 }
 
+-- both
+pub pieces_cut : (line : List ℕ) (pieces : List (List ℕ)) (from at : ℕ) → PiecesSoFar line pieces from at → at < length line → is_name_byte (get_or line at 0) ≡ false
+    → PiecesSoFar line (pieces ++ word_between line from at ++ slice_range line at (at + 1) ∷ []) (at + 1) (at + 1)
+pieces_cut line pieces from at far h e = by_case (nat_lt from at) refl where
+  by_case : (b : Bool) → nat_lt from at ≡ b → PiecesSoFar line (pieces ++ (if b then slice_range line from at ∷ [] else []) ++ slice_range line at (at + 1) ∷ []) (at + 1) (at + 1)
+  by_case true some = pieces_after_word line pieces from at far (ltb-true from at some) h e
+  by_case false none =
+      let same : from ≡ at = omega (arith, far.order, ltb-false from at none) in
+      rw append-nil (pieces_after_sign line pieces at (subst (λ n. PiecesSoFar line pieces n at) same far) h e)
+
 -- the last word, and no last word
 pub pieces_end_in_word : (line : List ℕ) (pieces : List (List ℕ)) (from : ℕ) → PiecesSoFar line pieces from (length line) → from < length line → pieces ++ drop from line ∷ [] ≡ pieces_of line
 pieces_end_in_word line pieces from far some =
@@ -128,3 +139,9 @@ pub pieces_end : (line : List ℕ) (pieces : List (List ℕ)) (from : ℕ) → P
 pieces_end line pieces from far none =
     let e : from ≡ length line = omega (arith, none, far.order) in
     sym (append-nil pieces) ∙ ap (λ rest. pieces ++ pieces_of rest) (sym (ap (λ n. drop n line) e ∙ drop-length line)) ∙ far.gives
+
+pub pieces_finish : (line : List ℕ) (pieces : List (List ℕ)) (from : ℕ) → PiecesSoFar line pieces from (length line) → pieces ++ last_word line from ≡ pieces_of line
+pieces_finish line pieces from far = by_case (nat_lt from (length line)) refl where
+  by_case : (b : Bool) → nat_lt from (length line) ≡ b → pieces ++ (if b then drop from line ∷ [] else []) ≡ pieces_of line
+  by_case true some = pieces_end_in_word line pieces from far (ltb-true from (length line) some)
+  by_case false none = append-nil pieces ∙ pieces_end line pieces from far (ltb-false from (length line) none)

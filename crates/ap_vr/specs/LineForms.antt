@@ -105,8 +105,12 @@ right_in pieces = option_and_then (λ first. right_by first pieces) (slice_get p
 abbrev pub join_in : List ℕ → List ℕ → Option Connection
 join_in port net = option_map (λ v. record { port = v.0; net = v.1 }) (beside (name_in port) (operand_in net))
 
+-- a connection before others, where they are there
+abbrev pub joined_with : Option Connection → Option (List Connection) → Option (List Connection)
+joined_with first more = option_map (λ v. v.0 ∷ v.1) (beside first more)
+
 unfoldable pub connections_in : List (List ℕ) → Option (List Connection)
-connections_in (a ∷ b ∷ c ∷ port ∷ d ∷ net ∷ e ∷ pieces) = option_map (λ v. v.0 ∷ v.1) (beside (join_in port net) (connections_in pieces))
+connections_in (a ∷ b ∷ c ∷ port ∷ d ∷ net ∷ e ∷ pieces) = joined_with (join_in port net) (connections_in pieces)
 connections_in _ = Some []
 
 -- the forms

@@ -1,10 +1,10 @@
 //! Reads a line: its names and numbers are taken from their places, and the line that they make has to be spelled so.
-ghost use Rattle.std.specs.Prelude.{◌≡◌, drop, IfErr, IfOk, option_and_then};
+ghost use Rattle.std.specs.Prelude.{◌≡◌, ◌<◌, [], drop, length, Some, IfErr, IfNone, IfOk, IfSome};
 ghost use Rattle.ap_vr.specs.Answers.{Answers, IsUnread};
 ghost use Rattle.ap_vr.specs.LineForms as forms;
 ghost use Rattle.ap_vr.specs.LineTexts.{IsAssign, IsConnection, IsDeclared, IsInstance, IsLine, IsNext, IsRight, IsSpelled};
 ghost use Rattle.std.specs.List.{AllByRecursion as Each};
-ghost use Rattle.ap_vr.specs.Pieces.{texts};
+ghost use Rattle.ap_vr.specs.Pieces.{pieces_of, texts};
 
 use crate::line::{Connection, Line, NamedAssign, NamedInstance, NamedNext, Right};
 use crate::line_text::line_string;
@@ -106,15 +106,33 @@ fn join(alloc: Global, port: &[u8], net: &[u8]) -> Result<Connection, Unread>
     Ok(Connection { port, net })
 }
 
+/// The first connection, by its port and its net, and the pieces after it.
+#[tactic(auto, using(crate::proofs::Joins::joins_short), unfolding(crate::specs::LineForms::connections_in))]
+fn first_join<'a>(pieces: &'a [&'a [u8]]) -> Option<(&'a [u8], &'a [u8], &'a [&'a [u8]])>
+    ensures some { IfSome result (λ j. forms.connections_in (texts pieces.now)
+        ≡ forms.joined_with (forms.join_in j.0.now j.1.now) (forms.connections_in (texts j.2.now))) }
+    ensures less { IfSome result (λ j. length j.2.now < length pieces.now) }
+    ensures none { IfNone result (forms.connections_in (texts pieces.now) ≡ Some []) }
+{
+    match pieces {
+        [_, _, _, port, _, net, _, more @ ..] => Some((port, net, more)),
+        _ => None,
+    }
+}
+
 /// The connections of an instance.
+#[tactic(auto, using(crate::proofs::Joins::joins_more, crate::proofs::Joins::joins_none, crate::proofs::Joins::joins_end))]
 fn connections(alloc: Global, pieces: &[&[u8]]) -> Result<Items<Connection>, Unread>
     ensures found { Answers result (forms.connections_in (texts pieces.now)) }
     ensures rules { IfOk result (Each IsConnection) }
 {
     let mut connections = Items::new(alloc);
     let mut rest = pieces;
-    while let [_, _, _, port, _, net, _, more @ ..] = rest {
-        connections.push(join(alloc, port, net)?)?;
+    while let Some((port, net, more)) = first_join(rest) {
+        match join(alloc, port, net) {
+            Ok(connection) => connections.push(connection)?,
+            Err(why) => return Err(why),
+        }
         rest = more;
     }
     Ok(connections)
@@ -174,10 +192,14 @@ fn input(alloc: Global, pieces: &[&[u8]]) -> Result<Line, Unread>
 }
 
 /// The pieces from this place on.
+#[tactic(auto, using(crate::proofs::Afters::texts_after, crate::proofs::Afters::nothing_after))]
 fn after<'a>(pieces: &'a [&'a [u8]], place: usize) -> &'a [&'a [u8]]
     ensures { texts result.now ≡ drop place (texts pieces.now) }
 {
-    pieces.get(place..).unwrap_or(&[])
+    if pieces.len() < place {
+        return &[];
+    }
+    &pieces[place..]
 }
 
 /// An assign.
@@ -281,19 +303,41 @@ fn line_of(alloc: Global, pieces: &[&[u8]]) -> Result<Line, Unread>
     line_by(alloc, first, pieces)
 }
 
+/// The line that the pieces of these bytes give.
+fn found(alloc: Global, bytes: &[u8]) -> Result<Line, Unread>
+    ensures found { Answers result (forms.line_in (pieces_of bytes.now)) }
+    ensures rules { IfOk result IsLine }
+{
+    let pieces = pieces(alloc, bytes)?;
+    line_of(alloc, &pieces)
+}
+
+/// The line that was found, if the bytes are its text.
+#[tactic(auto, using(crate::proofs::LineFound::other_line_found, crate::proofs::LineFound::spelled_line))]
+fn confirmed(alloc: Global, bytes: &[u8], line: Line) -> Result<Line, Unread>
+    requires found { forms.line_in (pieces_of bytes.now) ≡ Some line }
+    requires rules { IsLine line }
+    ensures ok { IfOk result (IsSpelled bytes.now) }
+    ensures err { IfErr result (IsUnread bytes.now) }
+{
+    let text = line_string(alloc, &line)?;
+    if !is(bytes, text.as_str()) {
+        return Err(Unread::NoForm);
+    }
+    Ok(line)
+}
+
 /// The line that the bytes spell.
 ///
 /// The names and numbers of a line are taken from their places. Whether the other bytes are those of
 /// a line is seen by comparing all of them with the text of the line that was found.
+#[tactic(auto, using(crate::proofs::LineFound::nothing_found))]
 pub(crate) fn read_line(alloc: Global, bytes: &[u8]) -> Result<Line, Unread>
     ensures ok { IfOk result (IsSpelled bytes.now) }
     ensures err { IfErr result (IsUnread bytes.now) }
 {
-    let pieces = pieces(alloc, bytes)?;
-    let line = line_of(alloc, &pieces)?;
-    let text = line_string(alloc, &line)?;
-    if text.as_bytes() != bytes {
-        return Err(Unread::NoForm);
+    match found(alloc, bytes) {
+        Ok(line) => confirmed(alloc, bytes, line),
+        Err(why) => Err(why),
     }
-    Ok(line)
 }

@@ -166,13 +166,21 @@ fn put_connections(
     Ok(())
 }
 
+/// The line of an instance as far as the connections of `clk` and `rst`.
+fn instance_head(alloc: Global, kind: &str, name: &str) -> Result<String, NoMemory>
+    ensures { IfOk result (λ text. string_bytes text
+        ≡ codes "  " ++ kind.now ++ codes " " ++ name.now ++ codes " (.clk(clk), .rst(rst)") }
+{
+    Ok(format!(in alloc; "  {kind} {name} (.clk(clk), .rst(rst)")?)
+}
+
 /// The line of an instance.
 fn instance_string(alloc: Global, instance: &NamedInstance) -> Result<String, NoMemory>
     ensures { IfOk result (λ text. string_bytes text ≡ named_instance_line instance.now) }
 {
     let module = instance.module.as_str();
     let name = instance.name.as_str();
-    let mut text = format!(in alloc; "  {module} {name} (.clk(clk), .rst(rst)")?;
+    let mut text = instance_head(alloc, module, name)?;
     put_connections(alloc, instance.connections.as_slice(), &mut text)?;
     text.push_str(");\n")?;
     Ok(text)

@@ -1,5 +1,5 @@
 //! Which line is due after those before it.
-ghost use Rattle.std.specs.Prelude.{◌≡◌};
+ghost use Rattle.std.specs.Prelude.{◌≡◌, ◌==◌};
 ghost use Rattle.ap_vr.specs.Places as places;
 
 use crate::line::Line;
@@ -46,6 +46,13 @@ impl Part {
             Part::Nexts => 8,
             Part::Instances => 9,
         }
+    }
+
+    /// Whether a module begins here, or the text ends.
+    pub(crate) fn is_start(self) -> bool
+        ensures { result ≡ (places.number self == 0) }
+    {
+        self.number() == 0
     }
 
     /// Whether the line is due here, in a module that is `top` or another one.

@@ -31,6 +31,7 @@ fn bad(line: u32) -> NetFault
 }
 
 /// How many bytes the first line has, with the line feed that ends it.
+#[tactic(auto, using(crate::proofs::TextLines::len_step, crate::proofs::TextLines::len_found))]
 fn line_len(rest: &[u8]) -> usize
     ensures { result ≡ first_len rest.now }
 {
@@ -44,6 +45,7 @@ fn line_len(rest: &[u8]) -> usize
 
 impl Lines<'_> {
     /// Reads the next line.
+    #[tactic(auto, using(crate::proofs::TextLines::len_within))]
     fn next(&mut self, alloc: Global) -> Result<Line, NetFault>
         requires { HasRoom self.old }
         ensures ok { IfOk result (λ line. TakesLine self.old line self.new) }
@@ -78,7 +80,7 @@ fn read_module(
     let top = name.as_str() == "top";
     let mut module = NamedModule::begin(alloc, first, name);
     let mut part = Part::Clock;
-    while part != Part::Start {
+    'lines: while !part.is_start() {
         let number = lines.number;
         let line = lines.next(alloc)?;
         if !part.is_due(top, &line) {
@@ -117,7 +119,7 @@ fn read_short(alloc: Global, text: &[u8]) -> Result<Vec<NamedModule>, NetFault>
     };
     let mut began = 1;
     let mut ends_in_top = false;
-    while !lines.rest.is_empty() {
+    'modules: while !lines.rest.is_empty() {
         began = lines.number;
         let name = module_name(&mut lines, alloc)?;
         ends_in_top = name.as_str() == "top";

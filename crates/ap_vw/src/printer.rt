@@ -19,7 +19,7 @@ pub struct Printer<'a> {
     modules: &'a [Module],
 }
 
-impl Model for Printer<'_> {
+impl<'a> Model for Printer<'a> {
     ghost use Rattle.std.specs.Prelude.{List, ℕ};
     ghost use Rattle.ap_vw.specs.Printing.{IsPrinter, printed_later};
 
