@@ -1,6 +1,6 @@
 -- The modules of a text, as far as a loop has read them.
 use Rattle.std.proofs.Common.{◌≡◌, ◌≢◌, ◌⊎◌, ℕ, ◌+◌, ◌<◌, ◌≤◌, Bool, true, false, List, [], ◌∷◌, ◌++◌, length, inl, inr, refl, sym, ap, subst, ◌∙◌, arith, append_assoc, append-nil, true≢false}
-use Rattle.std.specs.Prelude.{codes}
+use Rattle.std.specs.Prelude.{codes, IfErr, IfOk, Result, Ok, Err}
 use Rattle.std.specs.List.{flat_map, AllByRecursion as Each}
 use Rattle.std.specs.Str.{bytes_eq}
 use Rattle.std.proofs.lemmas.Bool.{false≢true}
@@ -16,7 +16,7 @@ use Rattle.ap_vr.specs.declared.place.Part.TheVariants as part
 use Rattle.ap_vr.specs.declared.reading.Lines.{Lines}
 use Rattle.ap_vr.specs.Named.{IsNamedModule, named_module_text, named_text}
 use Rattle.ap_vr.specs.Places.{Place, IsBadFrom, is_due, number, start}
-use Rattle.ap_vr.specs.Reading.{AreModulesOf, AreNumbered, EndsInTop, HasRoom, IsBadRead, IsModuleRead, IsNoModule, TakesLine, first_line, line_count, place_behind, place_in}
+use Rattle.ap_vr.specs.Reading.{AreModulesOf, AreNumbered, EndsInTop, HasRoom, IsBadRead, IsModuleRead, IsNoFirst, IsNoModule, IsNoNext, TakesLine, first_line, line_count, place_behind, place_in}
 use Rattle.ap_vr.specs.TextLines.{text_lines}
 use Rattle.ap_vr.proofs.Grown.{each_more}
 use Rattle.ap_vr.proofs.NextLine.{bad_after, bad_before, bad_here}
@@ -145,5 +145,18 @@ due_at_start p (said.Instance i) e other = rw e refl
 due_at_start p said.End e other = rw e refl
 
 -- why the first line of a module isn't one
-pub no_module : (now new : Lines) (x : Line) → TakesLine now x new → ((name : List ℕ) → x ≡ said.Module name → ⊥) → IsNoModule now (At now.number BadForm)
+pub no_module : (now new : Lines) (x : Line) → TakesLine now x new → IsNoFirst x → IsNoModule now (At now.number BadForm)
 no_module now new x taken other p at start some = (refl, bad_here p now new x taken at (due_at_start p x start other))
+
+-- no line is no first line
+pub no_next : (now : Lines) (fault : NetFault) → IsNoNext now fault → IsNoModule now fault
+no_next now fault none p at start some = none p at (inr some)
+
+-- the name of the first line, and why there is none
+pub first_taken : (now new : Lines) (x : Line) (result : Result (List ℕ) NetFault) → TakesLine now x new → IfOk result (λ name. x ≡ said.Module name) → IfOk result (λ name. TakesLine now (said.Module name) new)
+first_taken now new x (Ok name) taken same = subst (λ x. TakesLine now x new) same taken
+first_taken now new x (Err fault) taken same = tt
+
+pub first_refused : (now new : Lines) (x : Line) (result : Result (List ℕ) NetFault) → TakesLine now x new → IfErr result (λ fault. (fault ≡ At now.number BadForm) × IsNoFirst x) → IfErr result (IsNoModule now)
+first_refused now new x (Ok name) taken why = tt
+first_refused now new x (Err fault) taken why = subst (IsNoModule now) (sym why.0) (no_module now new x taken why.1)

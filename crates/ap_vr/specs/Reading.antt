@@ -7,6 +7,7 @@ use Rattle.ap_vr.specs.declared.fault.NetFault.{NetFault}
 use Rattle.ap_vr.specs.declared.fault.NetFault.TheVariants.{NoMemory, At}
 use Rattle.ap_vr.specs.declared.fault.NetKind.TheVariants.{BadForm}
 use Rattle.ap_vr.specs.declared.line.Line.{Line}
+use Rattle.ap_vr.specs.declared.line.Line.TheVariants as said
 use Rattle.ap_vr.specs.declared.module.NamedModule.{NamedModule}
 use Rattle.ap_vr.specs.declared.place.Part.{Part}
 use Rattle.ap_vr.specs.declared.place.Part.TheVariants as part
@@ -39,6 +40,10 @@ IsBadRead p text NoMemory = Unit {0}
 -- why no line came, whatever place in a module these lines stand in
 abbrev pub IsNoNext : Lines → NetFault → Type 0
 IsNoNext lines fault = (p : Place) → p.next ≡ lines.number → (number p.at ≢ 0) ⊎ (lines.rest.now ≢ []) → IsBadRead p lines.rest.now fault
+
+-- the line is no first line of a module
+abbrev pub IsNoFirst : Line → Type 0
+IsNoFirst x = (name : List ℕ) → x ≡ said.Module name → ⊥
 
 -- why the lines don't begin with the first line of a module, where one is due
 abbrev pub IsNoModule : Lines → NetFault → Type 0

@@ -1,10 +1,11 @@
 //! Reads the modules of a text, line by line.
-ghost use Rattle.std.specs.Prelude.{◌≡◌, ◌≢◌, ◌+◌, ◌<◌, ◌≤◌, IfErr, IfOk, length};
+ghost use Rattle.std.specs.Prelude.{codes, ◌≡◌, ◌≢◌, ◌+◌, ◌<◌, ◌≤◌, IfErr, IfOk, length};
+ghost use Rattle.std.specs.Str.{bytes_eq};
 ghost use Rattle.ap_net.specs.Names.{IsNetName};
 ghost use Rattle.ap_vr.specs.declared.fault.NetFault.TheVariants as fault;
 ghost use Rattle.ap_vr.specs.declared.fault.NetKind.TheVariants as kind;
 ghost use Rattle.ap_vr.specs.declared.line.Line.TheVariants as said;
-ghost use Rattle.ap_vr.specs.Reading.{AreModulesOf, HasRoom, IsBadRead, IsFormFault, IsModuleRead, IsNoModule, IsNoNext, IsWellFormed, TakesLine, place_in, text_limit};
+ghost use Rattle.ap_vr.specs.Reading.{AreModulesOf, HasRoom, IsBadRead, IsFormFault, IsModuleRead, IsNoFirst, IsNoModule, IsNoNext, IsWellFormed, TakesLine, place_in, text_limit};
 ghost use Rattle.ap_vr.specs.TextLines.{first_len};
 
 use crate::fault::{NetFault, NetKind, TEXT_LIMIT, at};
@@ -28,6 +29,13 @@ fn bad(line: u32) -> NetFault
     ensures { result ≡ fault.At line kind.BadForm }
 {
     at(line, NetKind::BadForm)
+}
+
+/// Whether a module of this name is `top`.
+fn is_top(name: &NetName) -> bool
+    ensures { result ≡ bytes_eq name.now (codes "top") }
+{
+    name.as_str() == "top"
 }
 
 /// How many bytes the first line has, with the line feed that ends it.
@@ -77,12 +85,15 @@ fn read_module(
     ensures ok { IfOk result (λ m. IsModuleRead first name lines.old m lines.new) }
     ensures err { IfErr result (IsBadRead (place_in first name lines.old) lines.old.rest.now) }
 {
-    let top = name.as_str() == "top";
+    let top = is_top(&name);
     let mut module = NamedModule::begin(alloc, first, name);
     let mut part = Part::Clock;
     'lines: while !part.is_start() {
         let number = lines.number;
-        let line = lines.next(alloc)?;
+        let line = match lines.next(alloc) {
+            Ok(line) => line,
+            Err(fault) => return Err(fault),
+        };
         if !part.is_due(top, &line) {
             return Err(bad(number));
         }
@@ -92,6 +103,17 @@ fn read_module(
     Ok(module)
 }
 
+/// The name of a module that begins in this line.
+fn first_name(line: Line, number: u32) -> Result<NetName, NetFault>
+    ensures ok { IfOk result (λ name. line ≡ said.Module name) }
+    ensures err { IfErr result (λ why. (why ≡ fault.At number kind.BadForm) × IsNoFirst line) }
+{
+    match line {
+        Line::Module(name) => Ok(name),
+        _other => Err(bad(number)),
+    }
+}
+
 /// The name in the first line of a module.
 fn module_name(lines: &mut Lines, alloc: Global) -> Result<NetName, NetFault>
     requires { HasRoom lines.old }
@@ -99,9 +121,9 @@ fn module_name(lines: &mut Lines, alloc: Global) -> Result<NetName, NetFault>
     ensures err { IfErr result (IsNoModule lines.old) }
 {
     let number = lines.number;
-    match lines.next(alloc)? {
-        Line::Module(name) => Ok(name),
-        _ => Err(bad(number)),
+    match lines.next(alloc) {
+        Ok(line) => first_name(line, number),
+        Err(fault) => Err(fault),
     }
 }
 
@@ -122,7 +144,7 @@ fn read_short(alloc: Global, text: &[u8]) -> Result<Vec<NamedModule>, NetFault>
     'modules: while !lines.rest.is_empty() {
         began = lines.number;
         let name = module_name(&mut lines, alloc)?;
-        ends_in_top = name.as_str() == "top";
+        ends_in_top = is_top(&name);
         let module = read_module(alloc, &mut lines, began, name)?;
         modules.push(module)?;
     }

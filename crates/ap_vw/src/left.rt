@@ -33,7 +33,7 @@ pub(crate) enum Due {
 }
 
 /// What is left of the lines of a module, whose instances are of the earlier ones.
-#[derive(Clone, Copy, Drop)]
+#[derive(Clone, Copy)]
 pub(crate) struct Left<'a> {
     pub(crate) earlier: &'a [Module],
     pub(crate) whole: &'a Module,
