@@ -2,7 +2,7 @@
 use Rattle.std.proofs.Common.{◌≡◌, ◌≢◌, ◌⊎◌, ℕ, ◌+◌, ◌<◌, ◌≤◌, ◌==◌, ◌&&◌, nat_le, nat_lt, min, Bool, true, false, cond, List, [], ◌∷◌, ◌++◌, length, inl, inr, refl, sym, ap, subst, ◌∙◌, arith, append_assoc, append-nil}
 use Rattle.std.specs.Prelude.{if◌then◌else◌, codes}
 use Rattle.std.specs.Str.{bytes_eq}
-use Rattle.std.proofs.lemmas.Bool.{and_parts, eqb-true, leb-true, lt-ltb}
+use Rattle.std.proofs.lemmas.Bool.{and_parts, eqb-true, leb-true, lt-ltb, false≢true}
 use Rattle.std.proofs.lemmas.List.{length_push, length-append}
 use Rattle.ap_net.specs.Names.{IsNetName}
 use Rattle.ap_vr.specs.declared.fault.NetFault.{NetFault}
@@ -190,3 +190,30 @@ module_ends first name old top m now far = record {
 } where
   counted : lines_so_far part.Start m ≡ line_count m
   counted = omega arith
+
+-- each line takes bytes
+pub fewer_bytes : (old new : Lines) (x : Line) → TakesLine old x new → length new.rest.now < length old.rest.now
+fewer_bytes old new x taken =
+    let e : length old.rest.now ≡ length taken.0 + length new.rest.now = ap length taken.1.text ∙ length-append taken.0 new.rest.now in
+    omega (arith, taken.1.some, e)
+
+-- a module isn't at its end, and is
+pub inside_start : (n : ℕ) (b : Bool) → b ≡ (n == 0) → b ≡ false → n ≢ 0
+inside_start n b h e zero = false≢true (sym e ∙ h ∙ ap (λ n. n == 0) zero)
+
+at_start : (at : Part) → number at ≡ 0 → at ≡ part.Start
+at_start part.Start h = refl
+at_start part.Clock h = absurd (omega (arith, h))
+at_start part.Reset h = absurd (omega (arith, h))
+at_start part.Ports h = absurd (omega (arith, h))
+at_start part.Close h = absurd (omega (arith, h))
+at_start part.Wires h = absurd (omega (arith, h))
+at_start part.Regs h = absurd (omega (arith, h))
+at_start part.Assigns h = absurd (omega (arith, h))
+at_start part.Nexts h = absurd (omega (arith, h))
+at_start part.Instances h = absurd (omega (arith, h))
+
+pub module_is_read : (first : ℕ) (name : List ℕ) (old : Lines) (at : Part) (top : Bool) (m : NamedModule) (now : Lines) (b : Bool) → ModuleSoFar first name old at top m now → b ≡ (number at == 0) → b ≡ true → IsModuleRead first name old m now
+module_is_read first name old at top m now b far h e =
+    let start : at ≡ part.Start = at_start at (eqb-true (number at) 0 (sym h ∙ e)) in
+    module_ends first name old top m now (subst (λ at. ModuleSoFar first name old at top m now) start far)

@@ -11,7 +11,7 @@ returns-in-Ok-clause-ok c =
     let rest : List ℕ = c.args.self.now.rest.now in
     let front : c.split_at.result.0.now ≡ take (first_len rest) rest = c.split_at.ensures.front ∙ ap (λ n. take n rest) c.line_len.ensures in
     let back : c.split_at.result.1.now ≡ drop (first_len rest) rest = c.split_at.ensures.back ∙ ap (λ n. drop n rest) c.line_len.ensures in
-    next_line c.args.self.now _ c.in-Ok.field-0 (subst (λ bytes. IsSpelled bytes c.in-Ok.field-0) front c.in-Ok.ensures.ok) back refl
+    next_line c.args.self.now _ c.in-Ok.line (subst (λ bytes. IsSpelled bytes c.in-Ok.line) front c.in-Ok.ensures.ok) back refl
 
 pub returns-in-Err-NoForm-clause-err : goal.returns-in-Err-NoForm-clause-err
 returns-in-Err-NoForm-clause-err c =
