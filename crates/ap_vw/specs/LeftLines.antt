@@ -9,7 +9,7 @@ use Rattle.ap_net.specs.declared.net.RegNet.{RegNet}
 use Rattle.ap_net.specs.declared.net.Assign.{Assign}
 use Rattle.ap_net.specs.declared.net.Next.{Next}
 use Rattle.ap_net.specs.declared.net.Instance.{Instance}
-use Rattle.ap_net.specs.Cells.{operands}
+use Rattle.ap_net.specs.Cells as cells
 use Rattle.ap_net.specs.Modules.{ModuleText, module_named, nets_of}
 use Rattle.ap_net.specs.Text.{ports_in}
 use Rattle.ap_vw.specs.declared.left.Due.{Due}
@@ -51,6 +51,9 @@ pub record IsLeft (l : Left) : Type 0 where
   pub ports : Each (λ (p : Port). 1 ≤ p.width) l.ports.now
   pub wires : Each (λ (n : Net). 1 ≤ n.width) l.wires.now
   pub regs : Each (λ (r : RegNet). 1 ≤ r.width) l.regs.now
-  pub assigns : Each (λ (a : Assign). (a.to.number < length (nets_of l.whole.now)) × Each (λ (o : Wire). o.number < length (nets_of l.whole.now)) (operands a.cell)) l.assigns.now
-  pub nexts : Each (λ (x : Next). (x.register.number < length (nets_of l.whole.now)) × (x.from.number < length (nets_of l.whole.now))) l.nexts.now
-  pub instances : Each (λ (i : Instance). (length i.nets ≡ length (ports_in (module_named l.earlier.now i.module))) × Each (λ (w : Wire). w.number < length (nets_of l.whole.now)) i.nets) l.instances.now
+  pub results : Each (λ (a : Assign). a.to.number < length (nets_of l.whole.now)) l.assigns.now
+  pub operands : Each (λ (a : Assign). Each (λ (o : Wire). o.number < length (nets_of l.whole.now)) (cells.operands a.cell)) l.assigns.now
+  pub registers : Each (λ (x : Next). x.register.number < length (nets_of l.whole.now)) l.nexts.now
+  pub froms : Each (λ (x : Next). x.from.number < length (nets_of l.whole.now)) l.nexts.now
+  pub long : Each (λ (i : Instance). length i.nets ≡ length (ports_in (module_named l.earlier.now i.module))) l.instances.now
+  pub nets : Each (λ (i : Instance). Each (λ (w : Wire). w.number < length (nets_of l.whole.now)) i.nets) l.instances.now

@@ -218,6 +218,14 @@ fn ports_named<'a>(modules: &'a [Module], name: &str) -> &'a [Port]
     }
 }
 
+/// The line of an instance as far as the connections of `clk` and `rst`.
+fn instance_head(alloc: Global, kind: &str, name: &str) -> Result<String, NoMemory>
+    ensures { IfOk result (λ text. string_bytes text
+        ≡ codes "  " ++ kind.now ++ codes " " ++ name.now ++ codes " (.clk(clk), .rst(rst)") }
+{
+    Ok(format!(in alloc; "  {kind} {name} (.clk(clk), .rst(rst)")?)
+}
+
 /// The line of an instance of one of these modules.
 pub(crate) fn instance_string(
     alloc: Global,
@@ -234,7 +242,7 @@ pub(crate) fn instance_string(
     let module = instance.module.as_str();
     let name = instance.name.as_str();
     let ports = ports_named(modules, module);
-    let mut text = format!(in alloc; "  {module} {name} (.clk(clk), .rst(rst)")?;
+    let mut text = instance_head(alloc, module, name)?;
     push_connections(alloc, whole, ports, instance.nets.as_slice(), &mut text)?;
     text.push_str(");\n")?;
     Ok(text)
