@@ -79,10 +79,14 @@ pub fn write(alloc: Global, net: &Netlist, out: &mut Vec<u8>) -> Result<(), NoMe
     ensures ok { OnOk result (out.new.items ≡ out.old.items ++ netlist_text net.now) }
     ensures err { OnErr result (AppendsFront (netlist_text net.now) out.old.items out.new.items) }
 {
+    net.rules();
     let mut printer = Printer::new(net);
     let mut more = true;
     while more {
-        more = printer.line(alloc, out)?;
+        match printer.line(alloc, out) {
+            Ok(next) => more = next,
+            Err(fault) => return Err(fault),
+        }
     }
     Ok(())
 }
