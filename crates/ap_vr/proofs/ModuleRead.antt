@@ -185,6 +185,7 @@ module_ends first name old top m now far = record {
   text = far.text;
   whole = far.whole;
   ends = far.count ∙ ap (λ n. first + n) counted;
+  room = far.room;
   bad = λ line bad. far.bad line (subst (λ t. IsBadFrom (place_at first part.Start t now) (text_lines now.rest.now) line) (sym far.is_top) bad);
   back = λ line bad. subst (λ t. IsBadFrom (place_at first part.Start t now) (text_lines now.rest.now) line) far.is_top (far.back line bad);
 } where

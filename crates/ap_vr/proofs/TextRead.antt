@@ -1,9 +1,9 @@
 -- The modules of a text, as far as a loop has read them.
-use Rattle.std.proofs.Common.{◌≡◌, ◌≢◌, ◌⊎◌, ℕ, ◌+◌, ◌<◌, ◌≤◌, Bool, true, false, List, [], ◌∷◌, ◌++◌, length, inl, inr, refl, sym, ap, subst, ◌∙◌, arith, append_assoc, append-nil, true≢false}
-use Rattle.std.specs.Prelude.{codes, IfErr, IfOk, Result, Ok, Err}
+use Rattle.std.proofs.Common.{◌≡◌, ◌≢◌, ◌⊎◌, ℕ, ◌+◌, ◌<◌, ◌≤◌, ◌==◌, Bool, true, false, List, [], ◌∷◌, ◌++◌, length, inl, inr, refl, sym, ap, subst, ◌∙◌, arith, append_assoc, append-nil, true≢false}
+use Rattle.std.specs.Prelude.{codes, IfErr, IfOk, MatchBool, Result, Ok, Err}
 use Rattle.std.specs.List.{flat_map, AllByRecursion as Each}
 use Rattle.std.specs.Str.{bytes_eq}
-use Rattle.std.proofs.lemmas.Bool.{false≢true}
+use Rattle.std.proofs.lemmas.Bool.{eqb-true, false≢true, le-ltb, lt-ltb}
 use Rattle.std.proofs.lemmas.Grind.{flat_map-append}
 use Rattle.std.proofs.lemmas.List.{length-append}
 use Rattle.ap_vr.specs.declared.fault.NetFault.{NetFault}
@@ -16,7 +16,7 @@ use Rattle.ap_vr.specs.declared.place.Part.TheVariants as part
 use Rattle.ap_vr.specs.declared.reading.Lines.{Lines}
 use Rattle.ap_vr.specs.Named.{IsNamedModule, named_module_text, named_text}
 use Rattle.ap_vr.specs.Places.{Place, IsBadFrom, is_due, number, start}
-use Rattle.ap_vr.specs.Reading.{AreModulesOf, AreNumbered, EndsInTop, HasRoom, IsBadRead, IsModuleRead, IsNoFirst, IsNoModule, IsNoNext, TakesLine, first_line, line_count, place_behind, place_in}
+use Rattle.ap_vr.specs.Reading.{AreModulesOf, AreNumbered, EndsInTop, HasBadForm, HasRoom, IsBadRead, IsFormFault, IsModuleRead, IsNoFirst, IsNoModule, IsNoNext, IsWellFormed, TakesLine, first_line, line_count, place_behind, place_in, text_limit}
 use Rattle.ap_vr.specs.TextLines.{text_lines}
 use Rattle.ap_vr.proofs.Grown.{each_more}
 use Rattle.ap_vr.proofs.NextLine.{bad_after, bad_before, bad_here}
@@ -160,3 +160,31 @@ first_taken now new x (Err fault) taken same = tt
 pub first_refused : (now new : Lines) (x : Line) (result : Result (List ℕ) NetFault) → TakesLine now x new → IfErr result (λ fault. (fault ≡ At now.number BadForm) × IsNoFirst x) → IfErr result (IsNoModule now)
 first_refused now new x (Ok name) taken why = tt
 first_refused now new x (Err fault) taken why = subst (IsNoModule now) (sym why.0) (no_module now new x taken why.1)
+
+-- a text that isn't too long has the faults of its lines
+of_lines : (text : List ℕ) (line : ℕ) → length text ≤ text_limit → IsBadFrom start (text_lines text) line → HasBadForm text line
+of_lines text line short h = subst (λ b. MatchBool b (line ≡ 0) (IsBadFrom start (text_lines text) line)) (sym (le-ltb text_limit (length text) short)) h
+
+to_lines : (text : List ℕ) (line : ℕ) → length text ≤ text_limit → HasBadForm text line → IsBadFrom start (text_lines text) line
+to_lines text line short h = subst (λ b. MatchBool b (line ≡ 0) (IsBadFrom start (text_lines text) line)) (le-ltb text_limit (length text) short) h
+
+pub form_fault : (text : List ℕ) (fault : NetFault) → length text ≤ text_limit → IsBadRead start text fault → IsFormFault text fault
+form_fault text NoMemory short h = tt
+form_fault text (At line kind) short h = (h.0, of_lines text line short h.1)
+
+pub well_formed : (text : List ℕ) → length text ≤ text_limit → ((line : ℕ) → IsBadFrom start (text_lines text) line → ⊥) → IsWellFormed text
+well_formed text short none line h = none line (to_lines text line short h)
+
+-- one that is too long
+pub too_long : (text : List ℕ) → text_limit < length text → IsFormFault text (At 0 BadForm)
+too_long text long = (refl, subst (λ b. MatchBool b (◌≡◌ {A = ℕ} 0 0) (IsBadFrom start (text_lines text) 0)) (sym (lt-ltb text_limit (length text) long)) refl)
+
+-- a text that has bytes left, and one that hasn't
+pub some_left : (rest : List ℕ) (b : Bool) → b ≡ (length rest == 0) → b ≡ false → rest ≢ []
+some_left rest b h e none = false≢true (sym e ∙ h ∙ ap (λ rest. length rest == 0) none)
+
+pub none_left : (rest : List ℕ) (b : Bool) → b ≡ (length rest == 0) → b ≡ true → rest ≡ []
+none_left rest b h e = nothing rest (eqb-true (length rest) 0 (sym h ∙ e)) where
+  nothing : (rest : List ℕ) → length rest ≡ 0 → rest ≡ []
+  nothing [] h = refl
+  nothing (b ∷ rest) h = absurd (omega (arith, h))

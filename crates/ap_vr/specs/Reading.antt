@@ -91,6 +91,7 @@ pub record IsModuleRead (first : ℕ) (name : List ℕ) (old : Lines) (m : Named
   pub text : old.rest.now ≡ body ++ new.rest.now
   pub whole : first_line name ++ body ≡ named_module_text m
   pub ends : new.number ≡ first + line_count m
+  pub room : HasRoom new
   pub bad : (line : ℕ) → IsBadFrom (place_behind first name new) (text_lines new.rest.now) line → IsBadFrom (place_in first name old) (text_lines old.rest.now) line
   pub back : (line : ℕ) → IsBadFrom (place_in first name old) (text_lines old.rest.now) line → IsBadFrom (place_behind first name new) (text_lines new.rest.now) line
 

@@ -143,9 +143,15 @@ fn read_short(alloc: Global, text: &[u8]) -> Result<Vec<NamedModule>, NetFault>
     let mut ends_in_top = false;
     'modules: while !lines.rest.is_empty() {
         began = lines.number;
-        let name = module_name(&mut lines, alloc)?;
+        let name = match module_name(&mut lines, alloc) {
+            Ok(name) => name,
+            Err(fault) => return Err(fault),
+        };
         ends_in_top = is_top(&name);
-        let module = read_module(alloc, &mut lines, began, name)?;
+        let module = match read_module(alloc, &mut lines, began, name) {
+            Ok(module) => module,
+            Err(fault) => return Err(fault),
+        };
         modules.push(module)?;
     }
     if !ends_in_top {
@@ -161,6 +167,7 @@ fn read_short(alloc: Global, text: &[u8]) -> Result<Vec<NamedModule>, NetFault>
 /// and the last module isn't `top`, that module's first line; and line 0 where the text has more than
 /// 67,108,864 bytes. No other fault comes. `NoMemory` comes only where memory ran out. The time goes with
 /// the number of bytes.
+#[tactic(auto, using(crate::proofs::TextRead::too_long))]
 pub fn read_modules(alloc: Global, text: &[u8]) -> Result<Vec<NamedModule>, NetFault>
     // A text that is accepted is of the form, and it is the text of these modules. One that is refused
     // isn't, and this is the line where that shows.
