@@ -88,7 +88,7 @@ fn read_module(
     let top = is_top(&name);
     let mut module = NamedModule::begin(alloc, first, name);
     let mut part = Part::Clock;
-    'lines: while !part.is_start() {
+    'inner: while !part.is_start() {
         let number = lines.number;
         let line = match lines.next(alloc) {
             Ok(line) => line,
@@ -141,7 +141,7 @@ fn read_short(alloc: Global, text: &[u8]) -> Result<Vec<NamedModule>, NetFault>
     };
     let mut began = 1;
     let mut ends_in_top = false;
-    'modules: while !lines.rest.is_empty() {
+    'outer: while !lines.rest.is_empty() {
         began = lines.number;
         let name = match module_name(&mut lines, alloc) {
             Ok(name) => name,

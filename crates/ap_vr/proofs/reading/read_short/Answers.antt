@@ -2,27 +2,27 @@ use Rattle.std.proofs.Common.{◌≡◌, refl, sym, ap, subst, ◌∙◌, arith,
 use Rattle.ap_vr.proofs.TextRead.{form_fault, none_left, room_after, some_left, text_begins, text_breaks_off, text_ends, text_ends_badly, text_grows, text_is_well_formed, text_without_module, well_formed}
 use Rattle.ap_vr.proofs.reading.read_short.Goals as goal
 
-pub modules-init : goal.modules-init
-modules-init c = text_begins c.args.text.now _ refl refl c.requires
+pub outer-init : goal.outer-init
+outer-init c = text_begins c.args.text.now _ refl refl c.requires
 
 pub module_name-requires : goal.module_name-requires
-module_name-requires c = c.modules.invariant.room
+module_name-requires c = c.outer.invariant.room
 
 pub read_module-requires : goal.read_module-requires
 read_module-requires c = record {
-  room = room_after _ _ _ c.modules.invariant.room c.in-Ok.ensures.ok;
+  room = room_after _ _ _ c.outer.invariant.room c.in-Ok.ensures.ok;
   first = sym c.in-Ok.ensures.ok.1.number;
   name = c.in-Ok.ensures.ok.1.spelled.0;
 }
 
-pub modules-preserved : goal.modules-preserved
-modules-preserved c =
+pub outer-preserved : goal.outer-preserved
+outer-preserved c =
     rw (c.in_ok-push.ensures.items, c.is_top-ends_in_top.ensures)
-    (text_grows _ _ _ _ _ _ _ _ _ c.modules.invariant c.in-Ok.ensures.ok c.in-Ok-2.ensures.ok c.in-Ok-2.ensures.ok.room)
+    (text_grows _ _ _ _ _ _ _ _ _ c.outer.invariant c.in-Ok.ensures.ok c.in-Ok-2.ensures.ok c.in-Ok-2.ensures.ok.room)
 
 pub returns-in-Err-clause-refused : goal.returns-in-Err-clause-refused
 returns-in-Err-clause-refused c =
-    form_fault _ _ c.requires (text_without_module _ _ _ _ _ _ c.modules.invariant (some_left _ _ c.is_empty.ensures (search rules)) c.in-Err.ensures.err)
+    form_fault _ _ c.requires (text_without_module _ _ _ _ _ _ c.outer.invariant (some_left _ _ c.is_empty.ensures (search rules)) c.in-Err.ensures.err)
 
 pub returns-in-Err-2-clause-refused : goal.returns-in-Err-2-clause-refused
-returns-in-Err-2-clause-refused c = form_fault _ _ c.requires (text_breaks_off _ _ _ _ _ _ _ _ c.modules.invariant c.in-Ok.ensures.ok c.in-Err-2.ensures.err)
+returns-in-Err-2-clause-refused c = form_fault _ _ c.requires (text_breaks_off _ _ _ _ _ _ _ _ c.outer.invariant c.in-Ok.ensures.ok c.in-Err-2.ensures.err)
