@@ -188,3 +188,10 @@ none_left rest b h e = nothing rest (eqb-true (length rest) 0 (sym h ∙ e)) whe
   nothing : (rest : List ℕ) → length rest ≡ 0 → rest ≡ []
   nothing [] h = refl
   nothing (b ∷ rest) h = absurd (omega (arith, h))
+
+-- a module takes bytes
+pub module_takes : (now mid new : Lines) (x : Line) (first : ℕ) (name : List ℕ) (m : NamedModule) → TakesLine now x mid → IsModuleRead first name mid m new → length new.rest.now < length now.rest.now
+module_takes now mid new x first name m taken read =
+    let a : length now.rest.now ≡ length taken.0 + length mid.rest.now = ap length taken.1.text ∙ length-append taken.0 mid.rest.now in
+    let b : length mid.rest.now ≡ length read.body + length new.rest.now = ap length read.text ∙ length-append read.body new.rest.now in
+    omega (arith, taken.1.some, a, b)

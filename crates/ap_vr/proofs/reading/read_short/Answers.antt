@@ -1,5 +1,5 @@
 use Rattle.std.proofs.Common.{◌≡◌, refl, sym, ap, subst, ◌∙◌, arith, rules}
-use Rattle.ap_vr.proofs.TextRead.{form_fault, none_left, room_after, some_left, text_begins, text_breaks_off, text_ends, text_ends_badly, text_grows, text_is_well_formed, text_without_module, well_formed}
+use Rattle.ap_vr.proofs.TextRead.{form_fault, module_takes, none_left, room_after, some_left, text_begins, text_breaks_off, text_ends, text_ends_badly, text_grows, text_is_well_formed, text_without_module, well_formed}
 use Rattle.ap_vr.proofs.reading.read_short.Goals as goal
 
 pub outer-init : goal.outer-init
@@ -26,3 +26,15 @@ returns-in-Err-clause-refused c =
 
 pub returns-in-Err-2-clause-refused : goal.returns-in-Err-2-clause-refused
 returns-in-Err-2-clause-refused c = form_fault _ _ c.requires (text_breaks_off _ _ _ _ _ _ _ _ c.outer.invariant c.in-Ok.ensures.ok c.in-Err-2.ensures.err)
+
+pub outer-smaller : goal.outer-smaller
+outer-smaller c = module_takes _ _ _ _ _ _ _ c.in-Ok.ensures.ok c.in-Ok-2.ensures.ok
+
+pub returns-then-not-ends_in_top-clause-refused : goal.returns-then-not-ends_in_top-clause-refused
+returns-then-not-ends_in_top-clause-refused c = rw c.bad.ensures (form_fault _ _ c.requires (text_ends_badly _ _ _ _ (rw c.if-not-ends_in_top.true at c.outer.invariant) (none_left _ _ c.is_empty.ensures (search rules))))
+
+pub returns-clause-modules : goal.returns-clause-modules
+returns-clause-modules c = text_ends _ _ _ _ (rw c.if-not-ends_in_top.false at c.outer.invariant) (none_left _ _ c.is_empty.ensures (search rules))
+
+pub returns-clause-well_formed : goal.returns-clause-well_formed
+returns-clause-well_formed c = well_formed _ c.requires (text_is_well_formed _ _ _ _ (rw c.if-not-ends_in_top.false at c.outer.invariant) (none_left _ _ c.is_empty.ensures (search rules)))
