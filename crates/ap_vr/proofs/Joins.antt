@@ -1,8 +1,11 @@
 -- Connections that are read one after another.
-use Rattle.std.proofs.Common.{◌≡◌, ℕ, ◌<◌, List, [], ◌∷◌, ◌++◌, length, Option, Some, None, refl, sym, ap, ◌∙◌, arith, append_assoc, append-nil}
+use Rattle.std.proofs.Common.{◌≡◌, ℕ, ◌<◌, ◌≤◌, get_or, drop, List, [], ◌∷◌, ◌++◌, length, Option, Some, None, refl, sym, ap, ◌∙◌, arith, append_assoc, append-nil}
 use Rattle.std.specs.Prelude.{option_map}
+use Rattle.std.specs.Borrow.{Bor}
+use Rattle.std.proofs.Math.ListN.{length-map}
 use Rattle.ap_vr.specs.declared.line.Connection.{Connection}
-use Rattle.ap_vr.specs.LineForms.{connections_in, joined_with}
+use Rattle.ap_vr.specs.LineForms.{connections_in, join_in, joined_with}
+use Rattle.ap_vr.specs.Pieces.{texts}
 
 -- fewer than seven pieces are no connection
 pub joins_short : (ps : List (List ℕ)) → length ps < 7 → connections_in ps ≡ Some []
@@ -31,3 +34,19 @@ joins_none whole rest more done first h e none = h ∙ ap (joined_after done) e 
 -- the last one
 pub joins_end : (whole rest : Option (List Connection)) (done : List Connection) → whole ≡ joined_after done rest → rest ≡ Some [] → whole ≡ Some done
 joins_end whole rest done h e = h ∙ ap (joined_after done) e ∙ ap Some (append-nil done)
+
+-- seven pieces are one
+pub joins_first : (rest : List (Bor (List ℕ))) (d : Bor (List ℕ)) → 7 ≤ length rest → connections_in (texts rest) ≡ joined_with (join_in (get_or rest 3 d).now (get_or rest 5 d).now) (connections_in (texts (drop 7 rest)))
+unfolding connections_in
+joins_first [] d h = absurd (omega (arith, h))
+joins_first (x0 ∷ []) d h = absurd (omega (arith, h))
+joins_first (x0 ∷ x1 ∷ []) d h = absurd (omega (arith, h))
+joins_first (x0 ∷ x1 ∷ x2 ∷ []) d h = absurd (omega (arith, h))
+joins_first (x0 ∷ x1 ∷ x2 ∷ x3 ∷ []) d h = absurd (omega (arith, h))
+joins_first (x0 ∷ x1 ∷ x2 ∷ x3 ∷ x4 ∷ []) d h = absurd (omega (arith, h))
+joins_first (x0 ∷ x1 ∷ x2 ∷ x3 ∷ x4 ∷ x5 ∷ []) d h = absurd (omega (arith, h))
+joins_first (x0 ∷ x1 ∷ x2 ∷ x3 ∷ x4 ∷ x5 ∷ x6 ∷ rest) d h = refl
+
+-- fewer than seven are none
+pub joins_over : (rest : List (Bor (List ℕ))) → length rest < 7 → connections_in (texts rest) ≡ Some []
+joins_over rest h = joins_short (texts rest) (let e : length (texts rest) ≡ length rest = simp length-map in omega (arith, h, e))

@@ -1,5 +1,5 @@
 //! Reads a line: its names and numbers are taken from their places, and the line that they make has to be spelled so.
-ghost use Rattle.std.specs.Prelude.{◌≡◌, ◌<◌, [], drop, length, Some, IfErr, IfNone, IfOk, IfSome};
+ghost use Rattle.std.specs.Prelude.{◌≡◌, drop, Some, IfErr, IfOk};
 ghost use Rattle.ap_vr.specs.Answers.{Answers, IsUnread};
 ghost use Rattle.ap_vr.specs.LineForms as forms;
 ghost use Rattle.ap_vr.specs.LineTexts.{IsAssign, IsConnection, IsDeclared, IsInstance, IsLine, IsNext, IsRight, IsSpelled};
@@ -106,33 +106,15 @@ fn join(alloc: Global, port: &[u8], net: &[u8]) -> Result<Connection, Unread>
     Ok(Connection { port, net })
 }
 
-/// The first connection, by its port and its net, and the pieces after it.
-#[tactic(auto, using(crate::proofs::Joins::joins_short), unfolding(crate::specs::LineForms::connections_in))]
-fn first_join<'a>(pieces: &'a [&'a [u8]]) -> Option<(&'a [u8], &'a [u8], &'a [&'a [u8]])>
-    ensures some { IfSome result (λ j. forms.connections_in (texts pieces.now)
-        ≡ forms.joined_with (forms.join_in j.0.now j.1.now) (forms.connections_in (texts j.2.now))) }
-    ensures less { IfSome result (λ j. length j.2.now < length pieces.now) }
-    ensures none { IfNone result (forms.connections_in (texts pieces.now) ≡ Some []) }
-{
-    match pieces {
-        [_, _, _, port, _, net, _, more @ ..] => Some((port, net, more)),
-        _ => None,
-    }
-}
-
 /// The connections of an instance.
-#[tactic(auto, using(crate::proofs::Joins::joins_more, crate::proofs::Joins::joins_none, crate::proofs::Joins::joins_end))]
 fn connections(alloc: Global, pieces: &[&[u8]]) -> Result<Items<Connection>, Unread>
     ensures found { Answers result (forms.connections_in (texts pieces.now)) }
     ensures rules { IfOk result (Each IsConnection) }
 {
     let mut connections = Items::new(alloc);
     let mut rest = pieces;
-    while let Some((port, net, more)) = first_join(rest) {
-        match join(alloc, port, net) {
-            Ok(connection) => connections.push(connection)?,
-            Err(why) => return Err(why),
-        }
+    while let [_, _, _, port, _, net, _, more @ ..] = rest {
+        connections.push(join(alloc, port, net)?)?;
         rest = more;
     }
     Ok(connections)
