@@ -1,11 +1,12 @@
 -- Connections that are read one after another.
-use Rattle.std.proofs.Common.{◌≡◌, ℕ, ◌<◌, ◌≤◌, get_or, drop, List, [], ◌∷◌, ◌++◌, length, Option, Some, None, refl, sym, ap, ◌∙◌, arith, append_assoc, append-nil}
+use Rattle.std.proofs.Common.{◌≡◌, ℕ, ◌<◌, ◌≤◌, ◌-◌, get_or, take, drop, List, [], ◌∷◌, ◌++◌, length, Option, Some, None, refl, sym, ap, ◌∙◌, arith, append_assoc, append-nil}
 use Rattle.std.specs.Prelude.{option_map}
 use Rattle.std.specs.Borrow.{Bor}
 use Rattle.std.proofs.Math.ListN.{length-map}
 use Rattle.ap_vr.specs.declared.line.Connection.{Connection}
 use Rattle.ap_vr.specs.LineForms.{connections_in, join_in, joined_with}
 use Rattle.ap_vr.specs.Pieces.{texts}
+use Rattle.ap_vr.proofs.Afters.{rest_texts}
 
 -- fewer than seven pieces are no connection
 pub joins_short : (ps : List (List ℕ)) → length ps < 7 → connections_in ps ≡ Some []
@@ -50,3 +51,11 @@ joins_first (x0 ∷ x1 ∷ x2 ∷ x3 ∷ x4 ∷ x5 ∷ x6 ∷ rest) d h = refl
 -- fewer than seven are none
 pub joins_over : (rest : List (Bor (List ℕ))) → length rest < 7 → connections_in (texts rest) ≡ Some []
 joins_over rest h = joins_short (texts rest) (let e : length (texts rest) ≡ length rest = simp length-map in omega (arith, h, e))
+
+-- the connections after one more
+pub joins_next : (whole : Option (List Connection)) (rest : List (Bor (List ℕ))) (d : Bor (List ℕ)) (done new : List Connection) (c : Connection) → 7 ≤ length rest → whole ≡ joined_after done (connections_in (texts rest)) → join_in (get_or rest 3 d).now (get_or rest 5 d).now ≡ Some c → new ≡ done ++ c ∷ []
+    → whole ≡ joined_after new (connections_in (texts (take (length rest - 7) (drop 7 rest))))
+joins_next whole rest d done new c room h e is =
+    joins_more whole (connections_in (texts rest)) (connections_in (texts (drop 7 rest))) done c h (joins_first rest d room ∙ ap (λ first. joined_with first (connections_in (texts (drop 7 rest)))) e)
+    ∙ ap (λ done. joined_after done (connections_in (texts (drop 7 rest)))) (sym is)
+    ∙ ap (λ ps. joined_after new (connections_in ps)) (sym (rest_texts rest 7))

@@ -146,11 +146,11 @@ due_at_start p said.End e other = rw e refl
 
 -- why the first line of a module isn't one
 pub no_module : (now new : Lines) (x : Line) → TakesLine now x new → IsNoFirst x → IsNoModule now (At now.number BadForm)
-no_module now new x taken other p at start some = (refl, bad_here p now new x taken at (due_at_start p x start other))
+no_module now new x taken other p at here some = (refl, bad_here p now new x taken at (due_at_start p x here other))
 
 -- no line is no first line
 pub no_next : (now : Lines) (fault : NetFault) → IsNoNext now fault → IsNoModule now fault
-no_next now fault none p at start some = none p at (inr some)
+no_next now fault none p at here some = none p at (inr some)
 
 -- the name of the first line, and why there is none
 pub first_taken : (now new : Lines) (x : Line) (result : Result (List ℕ) NetFault) → TakesLine now x new → IfOk result (λ name. x ≡ said.Module name) → IfOk result (λ name. TakesLine now (said.Module name) new)

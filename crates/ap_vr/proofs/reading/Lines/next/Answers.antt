@@ -17,4 +17,5 @@ pub returns-in-Err-NoForm-clause-err : goal.returns-in-Err-NoForm-clause-err
 returns-in-Err-NoForm-clause-err c =
     let rest : List ℕ = c.args.self.now.rest.now in
     let front : c.split_at.result.0.now ≡ take (first_len rest) rest = c.split_at.ensures.front ∙ ap (λ n. take n rest) c.line_len.ensures in
-    rw c.bad.ensures (no_line c.args.self.now (subst IsNoLine front c.in-Err-NoForm.ensures.err))
+    let none : IsNoLine c.split_at.result.0.now = rw c.in-Err-NoForm.field-0-is at c.in-Err-NoForm.ensures.err in
+    rw c.bad.ensures (no_line c.args.self.now (subst IsNoLine front none))
