@@ -1,2 +1,3 @@
+mod Regroup
 mod NetText
 mod Written
