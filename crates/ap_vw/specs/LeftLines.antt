@@ -1,7 +1,8 @@
 -- What is left of the lines of a module whose first lines were given.
 use Rattle.std.specs.Prelude.{◌≡◌, ℕ, ◌<◌, ◌≤◌, List, [], ◌∷◌, ◌++◌, length, codes}
 use Rattle.std.specs.List.{AllByRecursion as Each}
-use Rattle.std.specs.String.{String, string_bytes}
+use Rattle.std.specs.Prelude.{String}
+use Rattle.std.specs.String.{string_bytes}
 use Rattle.ap_net.specs.declared.cell.Wire.{Wire}
 use Rattle.ap_net.specs.declared.net.Net.{Net}
 use Rattle.ap_net.specs.declared.net.Port.{Port}
