@@ -121,60 +121,63 @@ impl<'a> Left<'a> {
     }
 
     /// What is left between the head and the end after the next line.
-    fn after_body(mut self) -> Left<'a>
+    fn after_body(self) -> Left<'a>
         requires rules { IsLeft self }
         requires due { self.due ≡ due.Body }
         ensures lines { lines_left result ≡ rest_of (lines_left self) }
         ensures rules { IsLeft result }
         ensures earlier { result.earlier.now ≡ self.earlier.now }
     {
-        if let [_, rest @ ..] = self.wires {
-            self.wires = rest;
-        } else if let [_, rest @ ..] = self.regs {
-            self.regs = rest;
-        } else if let [_, rest @ ..] = self.assigns {
-            self.assigns = rest;
-        } else if let [_, rest @ ..] = self.nexts {
-            self.nexts = rest;
-        } else if let [_, rest @ ..] = self.instances {
-            self.instances = rest;
+        let mut left = self;
+        if let [_, rest @ ..] = left.wires {
+            left.wires = rest;
+        } else if let [_, rest @ ..] = left.regs {
+            left.regs = rest;
+        } else if let [_, rest @ ..] = left.assigns {
+            left.assigns = rest;
+        } else if let [_, rest @ ..] = left.nexts {
+            left.nexts = rest;
+        } else if let [_, rest @ ..] = left.instances {
+            left.instances = rest;
         } else {
-            self.due = Due::Nothing;
+            left.due = Due::Nothing;
         }
-        self
+        left
     }
 
     /// What is left of the ports after the next line.
-    fn after_port(mut self) -> Left<'a>
+    fn after_port(self) -> Left<'a>
         requires rules { IsLeft self }
         requires due { self.due ≡ due.Ports }
         ensures lines { lines_left result ≡ rest_of (lines_left self) }
         ensures rules { IsLeft result }
         ensures earlier { result.earlier.now ≡ self.earlier.now }
     {
-        if let [_, rest @ ..] = self.ports {
-            self.ports = rest;
+        let mut left = self;
+        if let [_, rest @ ..] = left.ports {
+            left.ports = rest;
         } else {
-            self.due = Due::Body;
+            left.due = Due::Body;
         }
-        self
+        left
     }
 
     /// What is left after the next line.
-    pub(crate) fn after(mut self) -> Left<'a>
+    pub(crate) fn after(self) -> Left<'a>
         requires { IsLeft self }
         ensures lines { lines_left result ≡ rest_of (lines_left self) }
         ensures rules { IsLeft result }
         ensures earlier { result.earlier.now ≡ self.earlier.now }
     {
+        let mut left = self;
         match self.due {
-            Due::Module => self.due = Due::Clock,
-            Due::Clock => self.due = Due::Reset,
-            Due::Reset => self.due = Due::Ports,
+            Due::Module => left.due = Due::Clock,
+            Due::Clock => left.due = Due::Reset,
+            Due::Reset => left.due = Due::Ports,
             Due::Ports => return self.after_port(),
             Due::Body => return self.after_body(),
             Due::Nothing => {}
         }
-        self
+        left
     }
 }
