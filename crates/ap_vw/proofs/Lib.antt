@@ -1,3 +1,0 @@
-mod Regroup
-mod NetText
-mod Written

@@ -1,7 +1,0 @@
-use Rattle.std.proofs.Common.{◌≡◌, sym, ◌∙◌}
-use Rattle.std.specs.Prelude.{codes}
-use Rattle.ap_vw.proofs.Regroup.{in_five}
-use Rattle.ap_vw.proofs.line.instance_head.Goals as goal
-
-pub returns : goal.returns
-returns c = c.in_ok-format.ensures.ok ∙ sym (in_five (codes "  ") c.args.kind.now (codes " ") c.args.name.now (codes " (.clk(clk), .rst(rst)"))

@@ -1,3 +1,0 @@
-pub mod NetLines
-pub mod LeftLines
-pub mod Printing
