@@ -43,6 +43,11 @@ abbrev pub two_sums : ℕ → ℕ → ℕ → List Micro
 two_sums line first second = record { line = line + 1; stage = 2; act = act.Const 8 1 } ∷ record { line = line + 2; stage = 2; act = act.Compute first 0 (arg.Local 0) (arg.Local 0) }
     ∷ record { line = line + 3; stage = 2; act = act.Compute second 0 (arg.Local 1) (arg.Local 0) } ∷ []
 
+-- after line 30: in stage 1 o = const 8 1, s = FIRST.op o o, and in stage 2 t = SECOND.op s o
+abbrev pub sums_apart : ℕ → ℕ → List Micro
+sums_apart first second = record { line = 31; stage = 1; act = act.Const 8 1 } ∷ record { line = 32; stage = 1; act = act.Compute first 0 (arg.Local 0) (arg.Local 0) }
+    ∷ record { line = 33; stage = 2; act = act.Compute second 0 (arg.Local 1) (arg.Local 0) } ∷ []
+
 -- 1 o = const 8 1, and in this stage s = A.op o o
 abbrev pub one_sum : ℕ → ℕ → List Micro
 one_sum line stage = record { line = line + 1; stage = 1; act = act.Const 8 1 } ∷ record { line = line + 2; stage = stage; act = act.Compute 0 0 (arg.Local 0) (arg.Local 0) } ∷ []
@@ -60,9 +65,9 @@ abbrev pub far_memory : ℕ → List Micro
 far_memory unit = record { line = 21; stage = 2; act = act.ReadMem 0 (arg.Field 0) } ∷ record { line = 22; stage = 2; act = act.Zext 8 (arg.Local 0) }
     ∷ record { line = 23; stage = 2; act = act.Compute 0 0 (arg.Local 1) (arg.Local 1) } ∷ record { line = 24; stage = 2; act = act.Compute unit 0 (arg.Local 2) (arg.Local 2) } ∷ []
 
--- in stage 2, after line 30: o = const 8 1, s = B.op o o, v = M.read s
-abbrev pub sum_to_memory : List Micro
-sum_to_memory = record { line = 31; stage = 2; act = act.Const 8 1 } ∷ record { line = 32; stage = 2; act = act.Compute 1 0 (arg.Local 0) (arg.Local 0) } ∷ record { line = 33; stage = 2; act = act.ReadMem 0 (arg.Local 1) } ∷ []
+-- in stage 2, after line 30: o = const 8 1, s = UNIT.op o o, v = M.read s
+abbrev pub sum_to_memory : ℕ → List Micro
+sum_to_memory unit = record { line = 31; stage = 2; act = act.Const 8 1 } ∷ record { line = 32; stage = 2; act = act.Compute unit 0 (arg.Local 0) (arg.Local 0) } ∷ record { line = 33; stage = 2; act = act.ReadMem 0 (arg.Local 1) } ∷ []
 
 -- in stage 2, after line 40: o = const 8 1, v = M.read o, s = A.op v v
 abbrev pub memory_to_sum : List Micro

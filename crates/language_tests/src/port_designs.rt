@@ -3,7 +3,7 @@ ghost use Rattle.std.specs.Prelude.{◌≡◌, ◌<◌, [], ◌∷◌, IfOk};
 ghost use Rattle.ap_bits.specs.Names.{IsName};
 ghost use Rattle.ap_desc.specs.declared.design.Act.TheVariants as act;
 ghost use Rattle.ap_desc.specs.declared.design.Arg.TheVariants as arg;
-ghost use Rattle.language_tests.specs.PortExamples.{far_memory, file_to_sum, lines_instr, memory_to_sum, one_sum, one_write, ports_design, slow_input, sum_to_file, sum_to_memory, two_sums};
+ghost use Rattle.language_tests.specs.PortExamples.{far_memory, file_to_sum, lines_instr, memory_to_sum, one_sum, one_write, ports_design, slow_input, sum_to_file, sum_to_memory, sums_apart, two_sums};
 
 use ap_bits::{Items, Name, NoMemory};
 use ap_desc::design::{
@@ -216,6 +216,16 @@ pub(crate) fn two_sums(start: u32, first: u32, second: u32) -> [Micro; 3]
     ]
 }
 
+pub(crate) fn sums_apart(first: u32, second: u32) -> [Micro; 3]
+    ensures { result ≡ sums_apart first second }
+{
+    [
+        line(31, 1, one()),
+        line(32, 1, sum(first, 0, 0)),
+        line(33, 2, sum(second, 1, 0)),
+    ]
+}
+
 pub(crate) fn one_sum(start: u32, stage: u32) -> [Micro; 2]
     requires { start < 100 }
     ensures { result ≡ one_sum start stage }
@@ -274,12 +284,12 @@ fn read_at(local: u32) -> Act
     }
 }
 
-pub(crate) fn sum_to_memory() -> [Micro; 3]
-    ensures { result ≡ sum_to_memory }
+pub(crate) fn sum_to_memory(unit: u32) -> [Micro; 3]
+    ensures { result ≡ sum_to_memory unit }
 {
     [
         line(31, 2, one()),
-        line(32, 2, sum(1, 0, 0)),
+        line(32, 2, sum(unit, 0, 0)),
         line(33, 2, read_at(1)),
     ]
 }

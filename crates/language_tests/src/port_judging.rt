@@ -118,13 +118,33 @@ fn judged_file(alloc: Global) -> Result<Option<Refusal>, NoMemory>
     judge(&design)
 }
 
+/// A unit and a memory that feed each other, by two instructions.
+fn judged_reading(alloc: Global) -> Result<Option<Refusal>, NoMemory>
+    requires { IsSound (ports_design 4 2 1 [] [] (8 ∷ 8 ∷ 8 ∷ []) (sum_to_memory 0)
+        (8 ∷ 8 ∷ 8 ∷ []) memory_to_sum) }
+{
+    let second = sum_to_memory(0);
+    let third = memory_to_sum();
+    let design = design(
+        alloc,
+        SHORT,
+        &[],
+        &[],
+        &[8, 8, 8],
+        &second,
+        &[8, 8, 8],
+        &third,
+    )?;
+    judge(&design)
+}
+
 /// Two units and a memory in a ring, by three instructions.
 fn judged_ring(alloc: Global) -> Result<Option<Refusal>, NoMemory>
     requires { IsSound (ports_design 4 2 1 (8 ∷ 8 ∷ 8 ∷ []) (two_sums 20 0 1) (8 ∷ 8 ∷ 8 ∷ [])
-        sum_to_memory (8 ∷ 8 ∷ 8 ∷ []) memory_to_sum) }
+        (sum_to_memory 1) (8 ∷ 8 ∷ 8 ∷ []) memory_to_sum) }
 {
     let first = two_sums(20, 0, 1);
-    let second = sum_to_memory();
+    let second = sum_to_memory(1);
     let third = memory_to_sum();
     let design = design(
         alloc,
@@ -164,7 +184,9 @@ fn loop_designs_are_sound()
     ensures file { IsSound (ports_design 4 2 1 (8 ∷ 6 ∷ 8 ∷ 8 ∷ []) file_to_sum
         (8 ∷ 8 ∷ 6 ∷ 8 ∷ []) sum_to_file [] []) }
     ensures ring { IsSound (ports_design 4 2 1 (8 ∷ 8 ∷ 8 ∷ []) (two_sums 20 0 1)
-        (8 ∷ 8 ∷ 8 ∷ []) sum_to_memory (8 ∷ 8 ∷ 8 ∷ []) memory_to_sum) }
+        (8 ∷ 8 ∷ 8 ∷ []) (sum_to_memory 1) (8 ∷ 8 ∷ 8 ∷ []) memory_to_sum) }
+    ensures memory { IsSound (ports_design 4 2 1 [] [] (8 ∷ 8 ∷ 8 ∷ []) (sum_to_memory 0)
+        (8 ∷ 8 ∷ 8 ∷ []) memory_to_sum) }
 {}
 
 fn slow_designs_are_sound()
@@ -218,6 +240,7 @@ fn loops_of_stages(rt: HostRuntime) -> Result<(), Fail> {
     let alloc = rt.alloc();
     assert_eq!(rt; judged_loop(alloc)?, refused(6, 33, Fault::ChainLoop));
     assert_eq!(rt; judged_file(alloc)?, refused(6, 34, Fault::ChainLoop));
+    assert_eq!(rt; judged_reading(alloc)?, refused(6, 43, Fault::ChainLoop));
     assert_eq!(rt; judged_ring(alloc)?, refused(6, 43, Fault::ChainLoop));
     Ok(())
 }

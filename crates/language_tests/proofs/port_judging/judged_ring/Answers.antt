@@ -7,4 +7,4 @@ pub judge-requires : goal.judge-requires
 judge-requires c =
     subst IsSound (sym (c.in_ok-design.ensures ∙ ap (λ ms. ports_design 4 2 1 (8 ∷ 8 ∷ 8 ∷ []) ms (8 ∷ 8 ∷ 8 ∷ []) c.sum_to_memory-second.result (8 ∷ 8 ∷ 8 ∷ []) c.memory_to_sum-third.result) c.two_sums-first.ensures
     ∙ ap (λ ms. ports_design 4 2 1 (8 ∷ 8 ∷ 8 ∷ []) (two_sums 20 0 1) (8 ∷ 8 ∷ 8 ∷ []) ms (8 ∷ 8 ∷ 8 ∷ []) c.memory_to_sum-third.result) c.sum_to_memory-second.ensures
-    ∙ ap (λ ms. ports_design 4 2 1 (8 ∷ 8 ∷ 8 ∷ []) (two_sums 20 0 1) (8 ∷ 8 ∷ 8 ∷ []) sum_to_memory (8 ∷ 8 ∷ 8 ∷ []) ms) c.memory_to_sum-third.ensures)) c.requires
+    ∙ ap (λ ms. ports_design 4 2 1 (8 ∷ 8 ∷ 8 ∷ []) (two_sums 20 0 1) (8 ∷ 8 ∷ 8 ∷ []) (sum_to_memory 1) (8 ∷ 8 ∷ 8 ∷ []) ms) c.memory_to_sum-third.ensures)) c.requires

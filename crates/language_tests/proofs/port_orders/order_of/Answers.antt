@@ -3,5 +3,5 @@ use Rattle.ap_desc.specs.Sound.{IsSound}
 use Rattle.language_tests.specs.PortExamples.{ports_design}
 use Rattle.language_tests.proofs.port_orders.order_of.Goals as goal
 
-pub chain_order-requires : goal.chain_order-requires
-chain_order-requires c = subst IsSound (sym (c.in_ok-design.ensures ∙ ap (λ ms. ports_design 4 2 1 (8 ∷ 8 ∷ 8 ∷ []) ms [] [] [] []) c.two_sums-lines.ensures)) c.requires
+pub order_in-requires : goal.order_in-requires
+order_in-requires c = subst IsSound (sym (c.in_ok-design.ensures ∙ ap (λ ms. ports_design 4 2 1 (8 ∷ 8 ∷ 8 ∷ []) ms [] [] [] []) c.two_sums-lines.ensures)) c.requires

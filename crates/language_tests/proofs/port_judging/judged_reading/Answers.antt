@@ -1,0 +1,9 @@
+use Rattle.std.proofs.Common.{◌∷◌, [], ◌∙◌, ap, subst, sym}
+use Rattle.ap_desc.specs.Sound.{IsSound}
+use Rattle.language_tests.specs.PortExamples.{ports_design, sum_to_memory}
+use Rattle.language_tests.proofs.port_judging.judged_reading.Goals as goal
+
+pub judge-requires : goal.judge-requires
+judge-requires c =
+    subst IsSound (sym (c.in_ok-design.ensures ∙ ap (λ ms. ports_design 4 2 1 [] [] (8 ∷ 8 ∷ 8 ∷ []) ms (8 ∷ 8 ∷ 8 ∷ []) c.memory_to_sum-third.result) c.sum_to_memory-second.ensures
+    ∙ ap (λ ms. ports_design 4 2 1 [] [] (8 ∷ 8 ∷ 8 ∷ []) (sum_to_memory 0) (8 ∷ 8 ∷ 8 ∷ []) ms) c.memory_to_sum-third.ensures)) c.requires
