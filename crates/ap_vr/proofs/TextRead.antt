@@ -16,7 +16,7 @@ use Rattle.ap_vr.specs.declared.place.Part.TheVariants as part
 use Rattle.ap_vr.specs.declared.reading.Lines.{Lines}
 use Rattle.ap_vr.specs.Named.{IsNamedModule, named_module_text, named_text}
 use Rattle.ap_vr.specs.Places.{Place, IsBadFrom, is_due, number, start}
-use Rattle.ap_vr.specs.Reading.{AreModulesOf, AreNumbered, EndsInTop, HasBadForm, HasRoom, IsBadRead, IsFormFault, IsModuleRead, IsNoFirst, IsNoModule, IsNoNext, IsWellFormed, TakesLine, first_line, line_count, place_behind, place_in, text_limit}
+use Rattle.ap_vr.specs.Reading.{AreModulesOf, AreNumbered, EndsInTop, HasBadForm, HasFewLines, HasRoom, IsBadRead, IsFormFault, IsModuleRead, IsNoFirst, IsNoModule, IsNoNext, IsWellFormed, TakesLine, first_line, line_count, place_behind, place_in, text_limit}
 use Rattle.ap_vr.specs.TextLines.{text_lines}
 use Rattle.ap_vr.proofs.Grown.{each_more}
 use Rattle.ap_vr.proofs.NextLine.{bad_after, bad_before, bad_here}
@@ -48,6 +48,7 @@ pub record TextSoFar (text : List ℕ) (done : List NamedModule) (began : ℕ) (
   pub spelled : text ≡ named_text done ++ now.rest.now
   pub rules : Each IsNamedModule done
   pub numbers : AreNumbered 1 done
+  pub few : Each HasFewLines done
   pub next : now.number ≡ line_after 1 done
   pub ends : top ≡ true → EndsInTop done
   pub room : HasRoom now
@@ -60,6 +61,7 @@ text_begins text now rest n short = record {
   spelled = sym rest;
   rules = tt;
   numbers = tt;
+  few = tt;
   next = n;
   ends = λ h. absurd (false≢true h);
   room = (let e : length now.rest.now ≡ length text = ap length rest in omega (arith, n, e, short));
@@ -79,6 +81,7 @@ text_grows text done began top now mid new name m far taken read room = record {
   spelled = far.spelled ∙ ap (λ t. named_text done ++ t) rest ∙ sym (append_assoc (named_text done) (named_module_text m) new.rest.now) ∙ ap (λ t. t ++ new.rest.now) (sym more);
   rules = each_more IsNamedModule done m far.rules read.rules;
   numbers = numbered_more 1 done m far.numbers (read.begins ∙ far.next);
+  few = each_more HasFewLines done m far.few (omega (arith, read.ends, read.begins, room));
   next = read.ends ∙ ap (λ n. n + line_count m) far.next ∙ sym (line_after_more 1 done m);
   ends = λ e. top_more done m (read.named ∙ same_bytes name (codes "top") e);
   room = room;
@@ -121,6 +124,7 @@ text_ends text done began now far none = record {
   spelled = far.spelled ∙ ap (λ t. named_text done ++ t) none ∙ append-nil (named_text done);
   rules = far.rules;
   numbers = far.numbers;
+  few = far.few;
   top = far.ends refl;
 }
 

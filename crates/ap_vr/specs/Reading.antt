@@ -106,9 +106,14 @@ EndsInTop [] = ⊥
 EndsInTop (m ∷ []) = m.name ≡ codes "top"
 EndsInTop (m ∷ n ∷ modules) = EndsInTop (n ∷ modules)
 
+-- the numbers of all lines of a module are small
+abbrev pub HasFewLines : NamedModule → Type 0
+HasFewLines m = m.line + line_count m < 2147483648
+
 -- the text is these modules, one after another
 pub record AreModulesOf (text : List ℕ) (modules : List NamedModule) : Type 0 where
   pub spelled : text ≡ named_text modules
   pub rules : Each IsNamedModule modules
   pub numbers : AreNumbered 1 modules
+  pub few : Each HasFewLines modules
   pub top : EndsInTop modules
