@@ -1,27 +1,22 @@
 -- A module as far as its lines have been read: its text, and what it keeps.
-use Rattle.std.proofs.Common.{◌≡◌, ◌≢◌, ℕ, ◌+◌, ◌<◌, ◌≤◌, ◌==◌, ◌&&◌, nat_le, Bool, true, false, cond, List, [], ◌∷◌, ◌++◌, length, refl, sym, ap, subst, ◌∙◌, arith, append_assoc, append-nil}
-use Rattle.std.specs.Prelude.{codes, IsTrue}
+use Rattle.std.proofs.Common.{◌≡◌, ℕ, ◌<◌, ◌≤◌, Bool, false, List, [], ◌∷◌, ◌++◌, length, refl, sym, ap, ◌∙◌, arith, append_assoc, append-nil}
+use Rattle.std.specs.Prelude.{codes}
 use Rattle.std.specs.List.{flat_map, AllByRecursion as Each}
 use Rattle.std.specs.Str.{bytes_eq}
-use Rattle.std.proofs.lemmas.Bool.{and_parts, eqb-true, leb-true, true≢false}
-use Rattle.std.proofs.lemmas.List.{length_push}
 use Rattle.std.proofs.lemmas.Grind.{flat_map-append}
 use Rattle.ap_net.specs.declared.net.Net.{Net}
-use Rattle.ap_net.specs.declared.net.Port.{Port}
 use Rattle.ap_net.specs.Names.{IsNetName}
-use Rattle.ap_net.specs.Text.{port_text, range_text, wire_line}
-use Rattle.ap_vr.specs.declared.line.Line.{Line}
-use Rattle.ap_vr.specs.declared.line.Line.TheVariants as line
+use Rattle.ap_net.specs.Text.{wire_line}
 use Rattle.ap_vr.specs.declared.line.NamedAssign.{NamedAssign}
 use Rattle.ap_vr.specs.declared.line.NamedNext.{NamedNext}
 use Rattle.ap_vr.specs.declared.line.NamedInstance.{NamedInstance}
 use Rattle.ap_vr.specs.declared.module.NamedModule.{NamedModule}
 use Rattle.ap_vr.specs.declared.place.Part.{Part}
 use Rattle.ap_vr.specs.declared.place.Part.TheVariants as part
-use Rattle.ap_vr.specs.LineTexts.{IsLine, IsPort, IsDeclared, IsAssign, IsNext, IsInstance, line_text, port_line, register_line, named_assign_line, named_always_line, named_instance_line}
-use Rattle.ap_vr.specs.Named.{IsNamedModule, blank, grown, named_head, named_body, named_module_text}
-use Rattle.ap_vr.specs.Places.{number, is_due, part_after}
-use Rattle.ap_vr.specs.Reading.{first_line, line_count}
+use Rattle.ap_vr.specs.LineTexts.{IsPort, IsDeclared, IsAssign, IsNext, IsInstance, register_line, named_assign_line, named_always_line, named_instance_line}
+use Rattle.ap_vr.specs.Named.{named_head, named_body, named_module_text}
+use Rattle.ap_vr.specs.Places.{number}
+use Rattle.ap_vr.specs.Reading.{first_line}
 
 -- the text of the lines so far, where this is due
 abbrev pub body_front : NamedModule → List ℕ

@@ -1,5 +1,5 @@
 -- One more line of a module that is due there: its text comes after that of the lines before it, and the module keeps its rules.
-use Rattle.std.proofs.Common.{◌≡◌, ◌≢◌, ℕ, ◌+◌, ◌<◌, ◌≤◌, ◌==◌, ◌&&◌, nat_le, Bool, true, false, cond, List, [], ◌∷◌, ◌++◌, length, refl, sym, ap, subst, ◌∙◌, arith, append_assoc, append-nil}
+use Rattle.std.proofs.Common.{◌≡◌, ◌≢◌, ℕ, ◌≤◌, ◌&&◌, nat_le, Bool, true, false, List, [], ◌∷◌, ◌++◌, refl, sym, ap, ◌∙◌, arith, append_assoc, append-nil}
 use Rattle.std.specs.Prelude.{if◌then◌else◌, codes}
 use Rattle.std.specs.List.{flat_map, AllByRecursion as Each}
 use Rattle.std.proofs.lemmas.Bool.{and_parts, eqb-true, leb-true, true≢false}
@@ -14,11 +14,9 @@ use Rattle.ap_vr.specs.declared.line.NamedNext.{NamedNext}
 use Rattle.ap_vr.specs.declared.line.NamedInstance.{NamedInstance}
 use Rattle.ap_vr.specs.declared.module.NamedModule.{NamedModule}
 use Rattle.ap_vr.specs.declared.place.Part.{Part}
-use Rattle.ap_vr.specs.declared.place.Part.TheVariants as part
 use Rattle.ap_vr.specs.LineTexts.{IsLine, IsPort, IsDeclared, IsAssign, IsNext, IsInstance, line_text, port_line, register_line, named_assign_line, named_always_line, named_instance_line}
-use Rattle.ap_vr.specs.Named.{grown, named_head, named_body, named_module_text}
+use Rattle.ap_vr.specs.Named.{grown, named_head, named_body}
 use Rattle.ap_vr.specs.Places.{number, is_due, part_after}
-use Rattle.ap_vr.specs.Reading.{first_line}
 use Rattle.ap_vr.proofs.Regroup.{in_four}
 use Rattle.ap_vr.proofs.Fronts.{IsFront, body_front, body_grows, front_text, more_text, at_clock, at_reset, at_ports, at_close, at_body, body_of, wire_more, reg_more, assign_more, next_more, instance_more}
 

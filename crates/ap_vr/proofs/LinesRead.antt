@@ -1,5 +1,5 @@
 -- Each line is read from its text.
-use Rattle.std.proofs.Common.{◌≡◌, ◌≢◌, ℕ, ◌+◌, ◌-◌, ◌<◌, ◌^◌, Bool, true, false, cond, ◌||◌, not, nat_lt, List, [], ◌∷◌, ◌++◌, length, drop, Option, Some, None, refl, sym, ap, ◌∙◌, append_assoc, true≢false, ◌&&◌, nat_le}
+use Rattle.std.proofs.Common.{◌≡◌, ℕ, ◌-◌, Bool, true, false, ◌||◌, not, List, [], ◌∷◌, ◌++◌, length, Some, refl, ap, ◌∙◌, true≢false, ◌&&◌, nat_le}
 use Rattle.std.specs.Prelude.{if◌then◌else◌, codes, option_map, option_and_then}
 use Rattle.std.specs.Fmt.{decimal}
 use Rattle.std.specs.List.{flat_map, list_all, list_any, AllByRecursion as Each}
@@ -18,10 +18,10 @@ use Rattle.ap_vr.specs.declared.line.NamedInstance.{NamedInstance}
 use Rattle.ap_vr.specs.declared.line.Line.{Line}
 use Rattle.ap_vr.specs.declared.line.Line.TheVariants as line
 use Rattle.ap_vr.specs.LineForms.{beside, if_width, if_high, name_in, operand_in, digits_after, join_in, connections_in, right_in, declared_of, declared_in, port_in, input_by, input_in, assign_in, next_in, instance_in, inner_line_in, line_by, line_in}
-use Rattle.ap_vr.specs.LineTexts.{IsOperand, IsDeclared, IsPort, IsAssign, IsNext, IsConnection, IsInstance, IsLine, register_line, port_line, right_text, named_assign_line, named_always_line, joined_text, named_instance_line, line_text}
-use Rattle.ap_vr.specs.Pieces.{pieces_of, pieces_after}
+use Rattle.ap_vr.specs.LineTexts.{IsDeclared, IsPort, IsAssign, IsNext, IsConnection, IsInstance, IsLine, register_line, port_line, right_text, named_assign_line, named_always_line, joined_text, named_instance_line, line_text}
+use Rattle.ap_vr.specs.Pieces.{pieces_of}
 use Rattle.ap_vr.proofs.Regroup.{in_four, in_five, in_six}
-use Rattle.ap_vr.proofs.Pieces.{IsWord, word_then}
+use Rattle.ap_vr.proofs.Pieces.{word_then}
 use Rattle.ap_vr.proofs.Words.{name_word, name_read, operand_read, width_read, high_read, value_read, range_pieces, constant_pieces}
 use Rattle.ap_vr.proofs.RightsRead.{both_read, right_read}
 

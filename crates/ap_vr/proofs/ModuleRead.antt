@@ -1,5 +1,5 @@
 -- A module as far as a loop has read it.
-use Rattle.std.proofs.Common.{◌≡◌, ◌≢◌, ◌⊎◌, ℕ, ◌+◌, ◌<◌, ◌≤◌, ◌==◌, ◌&&◌, nat_le, nat_lt, min, Bool, true, false, cond, List, [], ◌∷◌, ◌++◌, length, inl, inr, refl, sym, ap, subst, ◌∙◌, arith, append_assoc, append-nil}
+use Rattle.std.proofs.Common.{◌≡◌, ◌≢◌, ℕ, ◌+◌, ◌<◌, ◌≤◌, ◌==◌, nat_le, nat_lt, min, Bool, true, false, cond, List, [], ◌++◌, length, inl, refl, sym, ap, subst, ◌∙◌, arith, append_assoc, append-nil}
 use Rattle.std.specs.Prelude.{if◌then◌else◌, codes}
 use Rattle.std.specs.Str.{bytes_eq}
 use Rattle.std.proofs.lemmas.Bool.{and_parts, eqb-true, leb-true, lt-ltb, false≢true}
@@ -14,10 +14,9 @@ use Rattle.ap_vr.specs.declared.module.NamedModule.{NamedModule}
 use Rattle.ap_vr.specs.declared.place.Part.{Part}
 use Rattle.ap_vr.specs.declared.place.Part.TheVariants as part
 use Rattle.ap_vr.specs.declared.reading.Lines.{Lines}
-use Rattle.ap_vr.specs.LineTexts.{line_text}
-use Rattle.ap_vr.specs.Named.{IsNamedModule, blank, grown, named_module_text}
+use Rattle.ap_vr.specs.Named.{blank, grown}
 use Rattle.ap_vr.specs.Places.{Place, IsBadFrom, number, is_due, part_after, place_after}
-use Rattle.ap_vr.specs.Reading.{HasRoom, IsBadRead, IsModuleRead, IsNoNext, TakesLine, first_line, line_count, place_behind, place_in}
+use Rattle.ap_vr.specs.Reading.{HasRoom, IsBadRead, IsModuleRead, IsNoNext, TakesLine, first_line, line_count, place_in}
 use Rattle.ap_vr.specs.TextLines.{text_lines}
 use Rattle.ap_vr.proofs.Fronts.{IsFront, front_text}
 use Rattle.ap_vr.proofs.Grown.{between, text_step, front_step}

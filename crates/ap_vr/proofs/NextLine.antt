@@ -1,23 +1,21 @@
 -- What the next line of a text means for the lines after a place.
-use Rattle.std.proofs.Common.{◌≡◌, ◌≢◌, ◌⊎◌, ℕ, ◌+◌, ◌<◌, ◌≤◌, Bool, true, false, List, [], ◌∷◌, ◌++◌, length, take, drop, Option, Some, inl, inr, ⊎_elim, refl, sym, ap, subst, ◌∙◌, arith, true≢false}
+use Rattle.std.proofs.Common.{◌≡◌, ◌≢◌, ◌⊎◌, ℕ, ◌+◌, ◌<◌, Bool, true, false, List, [], ◌∷◌, ◌++◌, length, take, drop, inl, inr, ⊎_elim, refl, sym, ap, subst, ◌∙◌, arith, true≢false}
 use Rattle.std.specs.Prelude.{if◌then◌else◌, codes}
 use Rattle.std.proofs.lemmas.List.{take-append-drop}
 use Rattle.std.proofs.lemmas.Bool.{eqb-true}
 use Rattle.std.proofs.lemmas.Option.{same_Some}
 use Rattle.ap_net.specs.Text.{clocked_text, range_text}
-use Rattle.ap_net.specs.declared.net.Port.{Port}
-use Rattle.ap_vr.specs.declared.fault.NetFault.{NetFault}
-use Rattle.ap_vr.specs.declared.fault.NetFault.TheVariants.{NoMemory, At}
+use Rattle.ap_vr.specs.declared.fault.NetFault.TheVariants.{At}
 use Rattle.ap_vr.specs.declared.fault.NetKind.TheVariants.{BadForm}
 use Rattle.ap_vr.specs.declared.line.Line.{Line}
 use Rattle.ap_vr.specs.declared.line.Line.TheVariants as said
 use Rattle.ap_vr.specs.declared.reading.Lines.{Lines}
 use Rattle.ap_vr.specs.Answers.{IsNoLine}
 use Rattle.ap_vr.specs.LineForms.{line_in}
-use Rattle.ap_vr.specs.LineTexts.{IsLine, IsSpelled, line_text, port_line}
+use Rattle.ap_vr.specs.LineTexts.{IsSpelled, line_text}
 use Rattle.ap_vr.specs.Pieces.{pieces_of}
-use Rattle.ap_vr.specs.Places.{Place, EndsBadly, IsBadFrom, IsDueLine, number, is_due, part_after, place_after}
-use Rattle.ap_vr.specs.Reading.{IsNext, IsNoModule, IsNoNext, IsBadRead, TakesLine}
+use Rattle.ap_vr.specs.Places.{Place, IsBadFrom, number, is_due, part_after, place_after}
+use Rattle.ap_vr.specs.Reading.{IsNoNext, TakesLine}
 use Rattle.ap_vr.specs.TextLines.{first_len, text_lines}
 use Rattle.ap_vr.proofs.LinesRead.{line_read}
 use Rattle.ap_vr.proofs.TextLines.{lines_cut, not_nil}

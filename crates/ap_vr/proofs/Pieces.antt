@@ -1,7 +1,6 @@
 -- The pieces of a line, as far as a loop has come that cuts it, and those of a line that begins with a word.
-use Rattle.std.proofs.Common.{◌≡◌, ℕ, ◌+◌, ◌<◌, ◌≤◌, Bool, true, false, cond, ◌&&◌, List, [], ◌∷◌, ◌++◌, ◌-◌, length, get_or, take, drop, drop-cons, slice_range, map, refl, sym, ap, subst, ◌∙◌, arith, add-one, append-nil, append_assoc, length-drop}
+use Rattle.std.proofs.Common.{◌≡◌, ℕ, ◌+◌, ◌<◌, ◌≤◌, Bool, true, false, cond, List, [], ◌∷◌, ◌++◌, ◌-◌, length, get_or, take, drop, drop-cons, slice_range, refl, sym, ap, subst, ◌∙◌, arith, add-one, append-nil, append_assoc, length-drop}
 use Rattle.std.specs.List.{list_all}
-use Rattle.std.specs.Borrow.{Bor}
 use Rattle.std.specs.Prelude.{if◌then◌else◌, nat_lt}
 use Rattle.std.proofs.lemmas.Bool.{and_parts, ltb-true, ltb-false}
 use Rattle.std.proofs.Math.Seq.{take-length, drop-length}
@@ -9,7 +8,7 @@ use Rattle.std.proofs.lemmas.List.{take_more, get_or-drop}
 use Rattle.std.proofs.lemmas.List.Edits.{length-between}
 use Rattle.std.proofs.lemmas.List.Folds.{drop_split}
 use Rattle.ap_net.specs.Names.{is_name_byte}
-use Rattle.ap_vr.specs.Pieces.{after_word, last_word, pieces_after, pieces_of, texts, word_between}
+use Rattle.ap_vr.specs.Pieces.{after_word, last_word, pieces_after, pieces_of, word_between}
 
 -- a byte of a word, and one that is none
 pub piece_more : (word : List ℕ) (b : ℕ) (line : List ℕ) → is_name_byte b ≡ true → pieces_after word (b ∷ line) ≡ pieces_after (word ++ b ∷ []) line

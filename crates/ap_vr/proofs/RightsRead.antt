@@ -1,5 +1,5 @@
 -- The right side of an assign is read from its text.
-use Rattle.std.proofs.Common.{◌≡◌, ◌≢◌, ℕ, ◌<◌, ◌^◌, Bool, true, false, cond, List, [], ◌∷◌, ◌++◌, Option, Some, None, refl, sym, ap, ◌∙◌, append_assoc}
+use Rattle.std.proofs.Common.{◌≡◌, ℕ, ◌<◌, ◌^◌, false, List, [], ◌∷◌, ◌++◌, Option, Some, refl, ap, ◌∙◌}
 use Rattle.std.specs.Prelude.{codes, option_map, option_and_then}
 use Rattle.std.specs.Fmt.{decimal}
 use Rattle.std.specs.Str.{bytes_eq}
@@ -8,7 +8,7 @@ use Rattle.ap_text.proofs.Written.{number_value-decimal}
 use Rattle.ap_net.specs.declared.cell.TwoOp.{TwoOp}
 use Rattle.ap_net.specs.declared.cell.TwoOp.TheVariants as op
 use Rattle.ap_net.specs.Names.{is_name_byte}
-use Rattle.ap_net.specs.Text.{sign, constant_text}
+use Rattle.ap_net.specs.Text.{sign}
 use Rattle.ap_vr.specs.declared.line.Right.{Right}
 use Rattle.ap_vr.specs.declared.line.Right.TheVariants as right
 use Rattle.ap_vr.specs.LineForms.{beside, if_width, operand_in, digits_after, op_in, joined_in, plain_right_in, right_by, right_in}

@@ -1,7 +1,7 @@
 -- The modules of a text, as far as a loop has read them.
-use Rattle.std.proofs.Common.{◌≡◌, ◌≢◌, ◌⊎◌, ℕ, ◌+◌, ◌<◌, ◌≤◌, ◌==◌, Bool, true, false, List, [], ◌∷◌, ◌++◌, length, inl, inr, refl, sym, ap, subst, ◌∙◌, arith, append_assoc, append-nil, true≢false}
+use Rattle.std.proofs.Common.{◌≡◌, ◌≢◌, ℕ, ◌+◌, ◌<◌, ◌≤◌, ◌==◌, Bool, true, false, List, [], ◌∷◌, ◌++◌, length, inr, refl, sym, ap, subst, ◌∙◌, arith, append_assoc, append-nil, true≢false}
 use Rattle.std.specs.Prelude.{codes, IfErr, IfOk, MatchBool, Result, Ok, Err}
-use Rattle.std.specs.List.{flat_map, AllByRecursion as Each}
+use Rattle.std.specs.List.{AllByRecursion as Each}
 use Rattle.std.specs.Str.{bytes_eq}
 use Rattle.std.proofs.lemmas.Bool.{eqb-true, false≢true, le-ltb, lt-ltb}
 use Rattle.std.proofs.lemmas.Grind.{flat_map-append}
@@ -16,7 +16,7 @@ use Rattle.ap_vr.specs.declared.place.Part.TheVariants as part
 use Rattle.ap_vr.specs.declared.reading.Lines.{Lines}
 use Rattle.ap_vr.specs.Named.{IsNamedModule, named_module_text, named_text}
 use Rattle.ap_vr.specs.Places.{Place, IsBadFrom, is_due, number, start}
-use Rattle.ap_vr.specs.Reading.{AreModulesOf, AreNumbered, EndsInTop, HasBadForm, HasFewLines, HasRoom, IsBadRead, IsFormFault, IsModuleRead, IsNoFirst, IsNoModule, IsNoNext, IsWellFormed, TakesLine, first_line, line_count, place_behind, place_in, text_limit}
+use Rattle.ap_vr.specs.Reading.{AreModulesOf, AreNumbered, EndsInTop, HasBadForm, HasFewLines, HasRoom, IsBadRead, IsFormFault, IsModuleRead, IsNoFirst, IsNoModule, IsNoNext, IsWellFormed, TakesLine, first_line, line_count, place_in, text_limit}
 use Rattle.ap_vr.specs.TextLines.{text_lines}
 use Rattle.ap_vr.proofs.Grown.{each_more}
 use Rattle.ap_vr.proofs.NextLine.{bad_after, bad_before, bad_here}

@@ -1,6 +1,6 @@
 -- Names, numbers and signs as pieces of a line.
-use Rattle.std.proofs.Common.{◌≡◌, ◌≢◌, ℕ, ◌+◌, ◌-◌, ◌<◌, ◌≤◌, ◌^◌, Bool, true, false, cond, ◌&&◌, not, nat_lt, nat_le, List, [], ◌∷◌, ◌++◌, length, Option, Some, None, refl, sym, ap, ◌∙◌, subst, arith, append_assoc}
-use Rattle.std.specs.Prelude.{codes, IsTrue, option_and_then}
+use Rattle.std.proofs.Common.{◌≡◌, ◌≢◌, ℕ, ◌+◌, ◌-◌, ◌<◌, ◌^◌, Bool, true, false, cond, ◌&&◌, not, nat_le, List, [], ◌∷◌, ◌++◌, length, Some, None, refl, sym, ap, ◌∙◌, arith, append_assoc}
+use Rattle.std.specs.Prelude.{codes, option_and_then}
 use Rattle.std.specs.List.{list_all, list_any}
 use Rattle.std.specs.Str.{bytes_eq}
 use Rattle.std.specs.Fmt.{decimal}
@@ -13,13 +13,13 @@ use Rattle.std.proofs.lemmas.Str.Parse.{digit_from_value}
 use Rattle.ap_bits.specs.Names.{starts_with_letter}
 use Rattle.ap_text.specs.Numbers.{number_value}
 use Rattle.ap_text.proofs.Written.{number_value-decimal}
-use Rattle.ap_net.specs.Names.{is_name_byte, is_net_name, IsNetName, barred_words}
+use Rattle.ap_net.specs.Names.{is_name_byte, IsNetName, barred_words}
 use Rattle.ap_net.specs.Text.{range_text, constant_text}
 use Rattle.ap_vr.specs.LineForms.{name_in, operand_in, digits_after, if_high, if_width}
 use Rattle.ap_vr.specs.LineTexts.{IsOperand, IsWidth}
-use Rattle.ap_vr.specs.Pieces.{pieces_after, pieces_of}
+use Rattle.ap_vr.specs.Pieces.{pieces_of}
 use Rattle.ap_vr.proofs.Regroup.{in_four}
-use Rattle.ap_vr.proofs.Pieces.{IsWord, word_then, past_word, after_some, piece_ends}
+use Rattle.ap_vr.proofs.Pieces.{IsWord, word_then, past_word, piece_ends}
 
 -- bytes that compare equal are equal, and others don't
 pub same_bytes : (xs ys : List ℕ) → bytes_eq xs ys ≡ true → xs ≡ ys

@@ -1,12 +1,11 @@
 -- Which line the pieces of one give, by the places in which its names and numbers stand. What stands in the other places isn't
 -- looked at: the bytes are compared with the text of the line that was found.
-use Rattle.std.specs.Prelude.{ℕ, ◌+◌, ◌&&◌, not, nat_le, nat_lt, Bool, true, false, List, [], ◌∷◌, length, drop, slice_get, codes, Option, Some, None, option_map, option_and_then, if◌then◌else◌}
+use Rattle.std.specs.Prelude.{ℕ, ◌+◌, ◌&&◌, nat_le, nat_lt, Bool, true, false, List, [], ◌∷◌, length, drop, slice_get, codes, Option, Some, None, option_map, option_and_then, if◌then◌else◌}
 use Rattle.std.specs.Str.{bytes_eq}
 use Rattle.ap_text.specs.Numbers.{number_value}
 use Rattle.ap_net.specs.declared.cell.TwoOp.{TwoOp}
 use Rattle.ap_net.specs.declared.cell.TwoOp.TheVariants as op
 use Rattle.ap_net.specs.declared.net.Net.{Net}
-use Rattle.ap_net.specs.declared.net.Port.{Port}
 use Rattle.ap_net.specs.Names.{is_net_name}
 use Rattle.ap_vr.specs.declared.line.Right.{Right}
 use Rattle.ap_vr.specs.declared.line.Right.TheVariants as right

@@ -1,12 +1,12 @@
 -- How each line of a netlist's text is spelled, by the names that stand in it. A line ends with its line feed. Which lines there
 -- are, and that each has one spelling, are the project's own rules.
-use Rattle.std.specs.Prelude.{◌≡◌, ◌≢◌, ℕ, ◌≤◌, ◌<◌, ◌^◌, Bool, true, false, if◌then◌else◌, List, [], ◌∷◌, ◌++◌, codes}
+use Rattle.std.specs.Prelude.{◌≡◌, ◌≢◌, ℕ, ◌≤◌, ◌<◌, ◌^◌, Bool, if◌then◌else◌, List, ◌++◌, codes}
 use Rattle.std.specs.Fmt.{decimal}
 use Rattle.std.specs.List.{flat_map, AllByRecursion as Each}
 use Rattle.ap_net.specs.declared.net.Net.{Net}
 use Rattle.ap_net.specs.declared.net.Port.{Port}
 use Rattle.ap_net.specs.Names.{IsNetName}
-use Rattle.ap_net.specs.Text.{range_text, constant_text, wire_line, sign, taken_text, clocked_text, connection_text}
+use Rattle.ap_net.specs.Text.{range_text, constant_text, wire_line, sign, taken_text, clocked_text}
 use Rattle.ap_vr.specs.declared.line.Right.{Right}
 use Rattle.ap_vr.specs.declared.line.Right.TheVariants as right
 use Rattle.ap_vr.specs.declared.line.NamedAssign.{NamedAssign}

@@ -1,13 +1,11 @@
 -- Modules as their lines say them, by names, and the text that they have.
-use Rattle.std.specs.Prelude.{◌≡◌, ℕ, ◌<◌, Bool, true, false, List, [], ◌∷◌, ◌++◌, length, codes}
+use Rattle.std.specs.Prelude.{◌≡◌, ℕ, ◌<◌, List, [], ◌∷◌, ◌++◌, length, codes}
 use Rattle.std.specs.List.{flat_map, AllByRecursion as Each}
 use Rattle.ap_net.specs.Names.{IsNetName}
 use Rattle.ap_net.specs.Text.{port_text, wire_line}
 use Rattle.ap_vr.specs.declared.line.Line.{Line}
 use Rattle.ap_vr.specs.declared.line.Line.TheVariants as line
 use Rattle.ap_vr.specs.declared.module.NamedModule.{NamedModule}
-use Rattle.ap_vr.specs.declared.place.Part.{Part}
-use Rattle.ap_vr.specs.declared.place.Part.TheVariants as part
 use Rattle.ap_vr.specs.LineTexts.{IsPort, IsDeclared, IsAssign, IsNext, IsInstance, register_line, named_assign_line, named_always_line, named_instance_line}
 
 -- a module of which nothing but its name stands there yet

@@ -1,5 +1,5 @@
 -- What reading a line, and reading the lines of a module, answers.
-use Rattle.std.specs.Prelude.{MatchBool, nat_lt, ◌≡◌, ◌≢◌, ◌⊎◌, ℕ, ◌+◌, ◌<◌, ◌≤◌, List, [], ◌∷◌, ◌++◌, length, codes, Bool}
+use Rattle.std.specs.Prelude.{MatchBool, nat_lt, ◌≡◌, ◌≢◌, ◌⊎◌, ℕ, ◌+◌, ◌<◌, List, [], ◌∷◌, ◌++◌, length, codes}
 use Rattle.std.specs.List.{AllByRecursion as Each}
 use Rattle.std.specs.Str.{bytes_eq}
 use Rattle.ap_vr.specs.declared.fault.TheConstants.{TEXT_LIMIT}
@@ -9,7 +9,6 @@ use Rattle.ap_vr.specs.declared.fault.NetKind.TheVariants.{BadForm}
 use Rattle.ap_vr.specs.declared.line.Line.{Line}
 use Rattle.ap_vr.specs.declared.line.Line.TheVariants as said
 use Rattle.ap_vr.specs.declared.module.NamedModule.{NamedModule}
-use Rattle.ap_vr.specs.declared.place.Part.{Part}
 use Rattle.ap_vr.specs.declared.place.Part.TheVariants as part
 use Rattle.ap_vr.specs.declared.reading.Lines.{Lines}
 use Rattle.ap_vr.specs.LineTexts.{IsSpelled}

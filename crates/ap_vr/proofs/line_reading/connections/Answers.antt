@@ -1,4 +1,3 @@
-use Rattle.std.proofs.Common.{◌≡◌, sym, ap, ◌∙◌, arith, rules}
 use Rattle.std.proofs.lemmas.Result.{err_from_is_err_and}
 use Rattle.ap_vr.specs.LineTexts.{IsConnection}
 use Rattle.ap_vr.proofs.Grown.{each_more}

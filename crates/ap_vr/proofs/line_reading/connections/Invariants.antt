@@ -1,4 +1,4 @@
-use Rattle.std.proofs.Common.{◌≡◌, ◌++◌, Option, Some, None, length, option_map}
+use Rattle.std.proofs.Common.{◌≡◌, length}
 use Rattle.std.specs.List.{AllByRecursion as Each}
 use Rattle.ap_vr.specs.LineForms.{connections_in}
 use Rattle.ap_vr.specs.LineTexts.{IsConnection}

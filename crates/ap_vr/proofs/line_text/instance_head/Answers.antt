@@ -1,4 +1,4 @@
-use Rattle.std.proofs.Common.{◌≡◌, sym, ◌∙◌}
+use Rattle.std.proofs.Common.{sym, ◌∙◌}
 use Rattle.std.specs.Prelude.{codes}
 use Rattle.ap_vr.proofs.Regroup.{in_five}
 use Rattle.ap_vr.proofs.line_text.instance_head.Goals as goal

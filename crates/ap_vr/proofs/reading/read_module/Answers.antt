@@ -1,4 +1,4 @@
-use Rattle.std.proofs.Common.{◌≡◌, ◌≢◌, sym, ap, subst, ◌∙◌, arith, rules}
+use Rattle.std.proofs.Common.{rules}
 use Rattle.ap_vr.proofs.ModuleRead.{fewer_bytes, inside_start, module_begins, module_breaks_off, module_ends_badly, module_grows, module_is_read}
 use Rattle.ap_vr.proofs.reading.read_module.Goals as goal
 

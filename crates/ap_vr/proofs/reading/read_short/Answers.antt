@@ -1,4 +1,4 @@
-use Rattle.std.proofs.Common.{◌≡◌, refl, sym, ap, subst, ◌∙◌, arith, rules}
+use Rattle.std.proofs.Common.{refl, sym, rules}
 use Rattle.ap_vr.specs.declared.fault.NetFault.TheVariants.{At}
 use Rattle.ap_vr.specs.declared.fault.NetKind.TheVariants.{BadForm}
 use Rattle.ap_vr.proofs.TextRead.{form_fault, module_takes, none_left, room_after, some_left, text_begins, text_breaks_off, text_ends, text_ends_badly, text_grows, text_is_well_formed, text_without_module, well_formed}

@@ -1,5 +1,4 @@
-use Rattle.std.proofs.Common.{◌≡◌, ℕ, List, drop, take, refl, sym, ap, subst, ◌∙◌}
-use Rattle.ap_vr.specs.declared.line.Line.{Line}
+use Rattle.std.proofs.Common.{◌≡◌, ℕ, List, drop, take, refl, ap, subst, ◌∙◌}
 use Rattle.ap_vr.specs.Answers.{IsNoLine}
 use Rattle.ap_vr.specs.LineTexts.{IsSpelled}
 use Rattle.ap_vr.specs.TextLines.{first_len}
