@@ -40,7 +40,7 @@ def micro_operations(number):
     lines += [f"  1 r{i} = R{(number + i) % 64}" for i in range(4)]
     lines += [f"  1 p{i} = in P{i}" for i in range(4)]
     lines += ["  2 s0 = U0.add a00 a10"]
-    lines += [f"  2 s{i} = U{i}.xor s{i - 1} a{i % 2}{i % 8}" for i in range(1, 24)]
+    lines += [f"  2 s{i} = U{i}.sub s{i - 1} a{i % 2}{i % 8}" for i in range(1, 24)]
     for i in range(4):
         lines += [f"  3 x{i} = slice 15 0 s{20 + i}", f"  3 v{i} = M{i}.read x{i}"]
     return lines + [f"  4 F{i}.w0 index v{i % 4}" for i in range(8)]
