@@ -34,18 +34,23 @@ fn text_doubled(alloc: Global, place: usize) -> Result<String, Fail> {
     Ok(text)
 }
 
+/// The line of the small text at this place.
+fn line_at(place: usize) -> &'static str {
+    match small().lines().nth(place) {
+        Some(line) => line,
+        None => "",
+    }
+}
+
 /// The small text with the line of this place after the next one.
 fn text_exchanged(alloc: Global, place: usize) -> Result<String, Fail> {
     let mut text = String::new(alloc);
-    let mut held = "";
     for (i, line) in small().lines().enumerate() {
-        if i == place {
-            held = line;
-        } else {
+        if i != place {
             push(&mut text, line)?;
         }
         if i > 0 && i - 1 == place {
-            push(&mut text, held)?;
+            push(&mut text, line_at(place))?;
         }
     }
     Ok(text)
