@@ -1,12 +1,12 @@
 #!/usr/bin/env python3
-"""Times the reading of large descriptions by the proved program.
+"""Times the reading and judging of large descriptions by the proved program.
 
     bench/reading.py [RUNS]
 
-Makes a description of nearly 1,048,576 bytes that has as many instructions and micro-operations as a description may
-have, and three of 1/2, 1/4 and 1/8 of it, by the number of instructions. `./asip gen` reads each of them whole and answers
-F0, since they have no fault of form and aren't of the form that is built. The least time of RUNS (5) is printed. The time
-of a description of seven lines says what the start of the program costs.
+Makes a description of nearly 1,048,576 bytes that is at all limits of the language: as many registers, files, memories, inputs,
+units, formats and fields, instructions and micro-operations as there may be; and three of 1/2, 1/4 and 1/8 of it, by the number of
+instructions. They have no fault, and aren't of the form that is built, so `./asip gen` reads each of them whole, judges all phases, and
+answers F0. The least time of RUNS (5) is printed. The time of a description of seven lines says what the start of the program costs.
 """
 import os
 import subprocess
@@ -21,18 +21,42 @@ MICRO_OPERATIONS = 64
 SMALLEST = "stages 2\naddress 4\nword 8\ntransfer 1 0\nformat R op:8\ninstr NOP R op=0\nend\n"
 
 
+def head():
+    """The statements before the instructions: each table is full."""
+    lines = ["stages 8", "address 16", "word 64", "transfer 5 4"]
+    lines += [f"reg R{i} 32 {i}" for i in range(64)]
+    lines += [f"file F{i} 32 64 4 2" for i in range(8)]
+    lines += [f"mem M{i} 16 32" for i in range(4)]
+    lines += [f"in P{i} 32" for i in range(8)]
+    lines += [f"unit U{i} alu 32" for i in range(32)]
+    fields = "op:8 index:6 " + " ".join(f"f{i}:3" for i in range(13)) + " rest:11"
+    lines += [f"format T{i} {fields}" for i in range(32)]
+    return "\n".join(lines) + "\n"
+
+
+def micro_operations(number):
+    """The 64 lines of an instruction: reads, a chain of units, memories and writes."""
+    lines = [f"  1 a{port}{i} = F{i}.r{port} index" for port in range(2) for i in range(8)]
+    lines += [f"  1 r{i} = R{(number + i) % 64}" for i in range(4)]
+    lines += [f"  1 p{i} = in P{i}" for i in range(4)]
+    lines += ["  2 s0 = U0.add a00 a10"]
+    lines += [f"  2 s{i} = U{i}.xor s{i - 1} a{i % 2}{i % 8}" for i in range(1, 24)]
+    for i in range(4):
+        lines += [f"  3 x{i} = slice 15 0 s{20 + i}", f"  3 v{i} = M{i}.read x{i}"]
+    return lines + [f"  4 F{i}.w0 index v{i % 4}" for i in range(8)]
+
+
 def description(instructions, size):
-    """A description with so many instructions, each of 64 lines, in nearly so many bytes."""
-    head = "stages 4\naddress 12\nword 32\ntransfer 1 1\nunit ALU alu 32\nformat R op:8 rd:4 rs:4 rt:4 z:12\n"
-    names = ["NOP"] + [f"I{number}" for number in range(1, instructions)]
-    frames = sum(len(f"instr {name} R op={number}\nend\n") for number, name in enumerate(names))
-    width = (size - len(head) - frames) // (instructions * MICRO_OPERATIONS)
-    lines = [head]
-    for number, name in enumerate(names):
-        lines.append(f"instr {name} R op={number}\n")
-        for place in range(MICRO_OPERATIONS):
-            line = f"  2 {'x' * 28}{place:04} = ALU.add pc link #"
-            lines.append(line.ljust(width - 1, "-") + "\n")
+    """A description with so many instructions, NOP and others of 64 lines, in nearly so many bytes."""
+    names = [f"I{number}" for number in range(1, instructions)]
+    start = head() + "instr NOP T0 op=0\nend\n"
+    frames = sum(len(f"instr {name} T{number % 32} op={number}\nend\n") for number, name in enumerate(names, 1))
+    width = (size - len(start) - frames) // ((instructions - 1) * MICRO_OPERATIONS)
+    lines = [start]
+    for number, name in enumerate(names, 1):
+        lines.append(f"instr {name} T{number % 32} op={number}\n")
+        for line in micro_operations(number):
+            lines.append((line + " #").ljust(width - 1, "-") + "\n")
         lines.append("end\n")
     return "".join(lines)
 

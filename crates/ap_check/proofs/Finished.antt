@@ -16,7 +16,7 @@ use Rattle.ap_desc.specs.Least.{HoldsNowhere, IsLeast}
 use Rattle.ap_desc.specs.StatementFaults.{HasStatementFault}
 use Rattle.ap_check.specs.Drafts.{completed}
 use Rattle.ap_check.specs.Known.{Describes, HasFaultOf, IsNameFault, IsNoted, Knows}
-use Rattle.ap_check.specs.Resolved.{IsResolvable, IsResolveFault}
+use Rattle.ap_check.specs.Resolved.{IsResolvable, IsLineFault}
 use Rattle.ap_check.specs.declared.environment.Environment.{Environment}
 use Rattle.ap_check.proofs.DraftLines.{instrs_completed}
 use Rattle.ap_check.proofs.Refused.{names_refused, none_refused, widths_refused}
@@ -55,7 +55,7 @@ module _ (cards : List Card) (statements : List Numbered) (env : Environment) (k
   end_design (Ok design) right made = made ∙ finished_design cards statements env knows right
   end_design (Err why) right made = tt
 
-  pub end_refused : (r : Result Design DescFault) → IfErr r (λ fault. (refusal : Refusal) → fault ≡ Refused refusal → env.noted ≡ Some refusal) → IfErr r (IsResolveFault statements cards)
+  pub end_refused : (r : Result Design DescFault) → IfErr r (λ fault. (refusal : Refusal) → fault ≡ Refused refusal → env.noted ≡ Some refusal) → IfErr r (IsLineFault statements cards)
   end_refused (Ok design) noted = tt
   end_refused (Err (Refused refusal)) noted = finished_refused cards statements env refusal knows (noted refusal refl)
   end_refused (Err NoMemory) noted = tt
@@ -67,6 +67,6 @@ module _ (cards : List Card) (statements : List Numbered) (env : Environment) (k
 
 -- a statement with a fault of names ends the work
 pub stopped_refused : (cards : List Card) (statements before : List Numbered) (n : Numbered) (after : List Numbered) (why : DescFault) → IsDescription statements → statements ≡ before ++ n ∷ after
-    → HoldsNowhere (HasFaultOf before cards 2) → IsNameFault cards before n why → IsResolveFault statements cards why
+    → HoldsNowhere (HasFaultOf before cards 2) → IsNameFault cards before n why → IsLineFault statements cards why
 stopped_refused cards statements before n after (Refused refusal) described split clean fault = names_refused statements cards before n after refusal described split clean fault
 stopped_refused cards statements before n after NoMemory described split clean fault = tt

@@ -6,6 +6,7 @@ pub mod Finished
 pub mod FirstFaults
 pub mod FirstOf
 pub mod FixedBits
+pub mod Judged
 pub mod KeptActs
 pub mod LineFaults
 pub mod LineStep

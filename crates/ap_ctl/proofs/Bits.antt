@@ -1,16 +1,15 @@
 -- What the gates tell.
-use Rattle.std.proofs.Common.{◌≡◌, ℕ, zero, suc, ◌+◌, ◌-◌, ◌^◌, ◌<◌, Bool, true, false, List, [], ◌∷◌, ◌++◌, ◌/◌, ◌%◌, ◌≤◌, length, get_or, take, drop, length-drop, refl, sym, ap, subst, ◌∙◌, arith}
+use Rattle.std.proofs.Common.{◌≡◌, ℕ, zero, suc, ◌+◌, ◌-◌, ◌^◌, ◌<◌, Bool, true, false, List, [], ◌∷◌, ◌/◌, ◌%◌, ◌≤◌, length, get_or, take, drop, length-drop, refl, sym, ap, subst, ◌∙◌, arith}
 use Rattle.std.specs.Prelude.{◌==◌, ◌&&◌, ◌||◌, not, bit_and, bit_or, if◌then◌else◌}
 use Rattle.std.specs.List.{AllByRecursion as Each, list_all, list_any}
 use Rattle.std.proofs.lemmas.List.{take_all}
 use Rattle.ap_net.specs.declared.cell.Cell.TheVariants as cell
 use Rattle.ap_net.specs.declared.cell.TwoOp.TheVariants as op
 use Rattle.ap_net.specs.declared.cell.Wire.{Wire}
-use Rattle.ap_net.specs.declared.net.ModuleNet.{ModuleNet}
-use Rattle.ap_net.specs.Cells.{IsNet, cell_value, widths_of}
-use Rattle.ap_net.specs.Draft.{Draft, Extends}
+use Rattle.ap_net.specs.Cells.{cell_value}
+use Rattle.ap_net.specs.Draft.{Draft}
 use Rattle.ap_net.specs.Making.{Makes}
-use Rattle.ap_net.specs.Readings.{Reading, IsSettled, Always, Carries}
+use Rattle.ap_net.specs.Readings.{Reading, IsSettled, Carries}
 use Rattle.ap_net.specs.Runs.{bit}
 use Rattle.ap_net.proofs.Laws.{IsNet-Makes, meant}
 use Rattle.ap_ctl.specs.Building.{IsBit, Tells, is_on}

@@ -1,6 +1,6 @@
 -- Lists of nets that are chosen by what they stand beside, and what it means that one of them is 1.
-use Rattle.std.proofs.Common.{◌≡◌, ℕ, zero, suc, ◌+◌, ◌-◌, ◌^◌, ◌<◌, ◌≤◌, Bool, true, false, List, [], ◌∷◌, ◌++◌, length, map, Option, Some, None, inl, inr, refl, sym, ap, subst, ◌∙◌, arith, flat_map}
-use Rattle.std.specs.Prelude.{◌==◌, ◌&&◌, ◌||◌, bit_and, nat_lt, filter, find, zip, if◌then◌else◌}
+use Rattle.std.proofs.Common.{◌≡◌, ℕ, ◌^◌, ◌<◌, Bool, true, false, List, [], ◌∷◌, length, map, Some, refl, sym, ap, ◌∙◌, flat_map}
+use Rattle.std.specs.Prelude.{◌&&◌, ◌||◌, bit_and, filter, find, zip, if◌then◌else◌}
 use Rattle.std.specs.List.{AllByRecursion as Each, list_any, range_with_len}
 use Rattle.std.specs.Option.{option_map_or}
 use Rattle.std.proofs.lemmas.List.Folds.{list_any-append}
@@ -13,7 +13,6 @@ use Rattle.ap_model.specs.Fire.{instr_of, is_match}
 use Rattle.ap_model.specs.Stalls.{has_memory_line}
 use Rattle.ap_net.specs.declared.cell.Wire.{Wire}
 use Rattle.ap_net.specs.Pending.{Among}
-use Rattle.ap_net.specs.Ready.{numbers}
 use Rattle.ap_net.specs.Readings.{Reading}
 use Rattle.ap_ctl.specs.Building.{is_on}
 use Rattle.ap_ctl.specs.Given.{has_memory_line_in, is_slow_unit, is_used_in, memory_nets, net_of, slow_units, unit_nets}

@@ -1,6 +1,6 @@
 -- What the nets of a stage's tests tell of its instructions.
-use Rattle.std.proofs.Common.{◌≡◌, ℕ, Bool, true, false, List, [], ◌∷◌, ◌++◌, map, refl, sym, ap, subst, ◌∙◌, take}
-use Rattle.std.specs.Prelude.{◌&&◌, filter, if◌then◌else◌, slice_get, Some}
+use Rattle.std.proofs.Common.{◌≡◌, ℕ, Bool, true, false, List, [], ◌∷◌, map, refl, sym, ap, subst, ◌∙◌}
+use Rattle.std.specs.Prelude.{filter, if◌then◌else◌, slice_get, Some}
 use Rattle.std.specs.List.{AllByRecursion as Each, list_all}
 use Rattle.ap_desc.specs.Clean.{IsClean}
 use Rattle.ap_desc.specs.Sound.{IsEncoded}
@@ -10,7 +10,7 @@ use Rattle.ap_model.specs.Fire.{is_match}
 use Rattle.ap_net.specs.declared.cell.Wire.{Wire}
 use Rattle.ap_net.specs.Draft.{Draft, Extends}
 use Rattle.ap_net.specs.Pending.{Among}
-use Rattle.ap_net.specs.Ready.{Dependence, numbers}
+use Rattle.ap_net.specs.Ready.{numbers}
 use Rattle.ap_net.specs.Readings.{Reading, IsSettled}
 use Rattle.ap_ctl.specs.declared.decode.Compared.{Compared}
 use Rattle.ap_ctl.specs.declared.field.FieldTest.{FieldTest}

@@ -1,6 +1,6 @@
 -- A word matches an instruction exactly where the fields that it fixes have their values.
-use Rattle.std.proofs.Common.{◌≡◌, ℕ, zero, suc, ◌+◌, ◌-◌, ◌*◌, ◌/◌, ◌%◌, ◌^◌, ◌<◌, ◌≤◌, Bool, true, false, if◌then◌else◌, List, [], ◌∷◌, ◌++◌, length, Option, Some, None, refl, sym, ap, subst, ◌∙◌, arith, pow_mono, pow_pos, sum_by}
-use Rattle.std.specs.Prelude.{◌==◌, ◌&&◌, bit_and, nat_le, nat_lt, filter_map, zip, slice_get, Contains, IsSomeAnd, IsTrue}
+use Rattle.std.proofs.Common.{◌≡◌, ℕ, zero, suc, ◌+◌, ◌-◌, ◌*◌, ◌/◌, ◌%◌, ◌^◌, ◌<◌, ◌≤◌, Bool, true, false, List, [], ◌∷◌, ◌++◌, length, Option, Some, None, refl, sym, ap, subst, ◌∙◌, arith, pow_mono, pow_pos, sum_by}
+use Rattle.std.specs.Prelude.{◌==◌, ◌&&◌, bit_and, nat_le, nat_lt, filter_map, zip, slice_get, IsSomeAnd, IsTrue}
 use Rattle.std.specs.List.{AllByRecursion as Each, list_all}
 use Rattle.std.specs.Option.{option_map_or}
 use Rattle.std.proofs.lemmas.Bool.{and_from, and_parts, eq-eqb, eqb-true, le-leb, leb-true, ltb-true}
@@ -8,7 +8,7 @@ use Rattle.std.proofs.lemmas.List.Elements.{All-contains, All-from_recursion}
 use Rattle.std.proofs.lemmas.List.Sums.{sum_by-cons}
 use Rattle.std.proofs.lemmas.Nat.{and_block, and_le_r, and_mask, mod_low, pow-add, shr_high}
 use Rattle.ap_desc.specs.Clean.{IsClean}
-use Rattle.ap_desc.specs.Designs.{ArePlaced, IsInstr, IsRight, fields_of, is_between, is_counted, is_format_within, mask_bits, value_bits}
+use Rattle.ap_desc.specs.Designs.{ArePlaced, IsInstr, IsRight, is_between, is_counted, is_format_within, mask_bits, value_bits}
 use Rattle.ap_desc.specs.Sound.{AreFixedFitting, IsEncoded, fits_field}
 use Rattle.ap_desc.specs.declared.design.Design.{Design}
 use Rattle.ap_desc.specs.declared.design.Field.{Field}

@@ -1,21 +1,20 @@
 -- Which flights fire, and where words are in the next cycle, by nets.
-use Rattle.std.proofs.Common.{◌≡◌, ℕ, zero, suc, ◌+◌, ◌-◌, ◌<◌, ◌≤◌, Bool, true, false, List, [], ◌∷◌, ◌++◌, length, get_or, inl, inr, refl, sym, ap, subst, ◌∙◌, arith}
-use Rattle.std.specs.Prelude.{◌&&◌, not, if◌then◌else◌, slice_get, Some, Contains}
+use Rattle.std.proofs.Common.{◌≡◌, ℕ, zero, suc, ◌<◌, Bool, true, false, List, [], ◌∷◌, length, get_or, inl, inr, refl, ap, arith}
+use Rattle.std.specs.Prelude.{if◌then◌else◌, Contains}
 use Rattle.std.specs.List.{AllByRecursion as Each}
 use Rattle.std.specs.Option.{option_map_or}
 use Rattle.std.proofs.lemmas.List.Elements.{All-contains, All-from_recursion}
 use Rattle.std.proofs.lemmas.Option.{slice_get-get_or}
 use Rattle.ap_desc.specs.declared.design.Design.{Design}
 use Rattle.ap_net.specs.declared.cell.Wire.{Wire}
-use Rattle.ap_net.specs.Draft.{Draft}
 use Rattle.ap_net.specs.Pending.{Among}
 use Rattle.ap_net.specs.Ready.{numbers}
 use Rattle.ap_net.specs.Readings.{Reading}
 use Rattle.ap_ctl.specs.declared.move_on.Gates.{Gates}
-use Rattle.ap_ctl.specs.Building.{IsBit, Tells, is_on}
+use Rattle.ap_ctl.specs.Building.{is_on}
 use Rattle.ap_ctl.specs.Meaning.{is_killable}
-use Rattle.ap_ctl.specs.Moves.{coming_of, fire_of, is_on_at, next_of, next_numbers, open_gate}
-use Rattle.ap_ctl.proofs.Built.{Each-join, Each-map, Each-weaker, among_all, among_nets}
+use Rattle.ap_ctl.specs.Moves.{is_on_at, next_numbers, open_gate}
+use Rattle.ap_ctl.proofs.Built.{Each-weaker, among_nets}
 use Rattle.ap_ctl.proofs.Stages.{among_l, among_r}
 
 -- one of two nets

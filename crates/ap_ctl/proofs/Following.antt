@@ -1,10 +1,10 @@
 -- What the nets beside the valid bits follow from.
-use Rattle.std.proofs.Common.{◌≡◌, ℕ, List, [], ◌∷◌, ◌++◌, flat_map, inl, inr, refl, sym, ap, subst, ◌∙◌}
+use Rattle.std.proofs.Common.{ℕ, List, [], ◌∷◌, ◌++◌, flat_map, inl, inr, refl}
 use Rattle.std.specs.List.{AllByRecursion as Each}
 use Rattle.ap_net.specs.declared.cell.Wire.{Wire}
-use Rattle.ap_net.specs.Draft.{Draft, CanFresh, Extends}
+use Rattle.ap_net.specs.Draft.{Draft, CanFresh}
 use Rattle.ap_net.specs.Pending.{Among, IsFrom}
-use Rattle.ap_net.specs.Ready.{Dependence, ReadyAfter, numbers}
+use Rattle.ap_net.specs.Ready.{numbers}
 use Rattle.ap_net.proofs.Laws.{IsFrom-more}
 use Rattle.ap_ctl.specs.declared.move_on.Gates.{Gates}
 use Rattle.ap_ctl.specs.declared.nets.ControlGiven.{ControlGiven}
@@ -12,7 +12,7 @@ use Rattle.ap_ctl.specs.Building.{BuildsComparing, Gives, GivesComparing, GivesE
 use Rattle.ap_ctl.specs.declared.field.FieldTest.{FieldTest}
 use Rattle.ap_ctl.specs.Given.{holding, killing}
 use Rattle.ap_ctl.specs.Moves.{AreGates, busy_numbers, next_numbers}
-use Rattle.ap_ctl.proofs.Built.{Builds-fewer, Each-join, Each-map, Each-weaker, Gives-after, GivesEach-after, Tells-Builds, among_all, from_these}
+use Rattle.ap_ctl.proofs.Built.{Builds-fewer, Each-join, Each-map, Each-weaker, Gives-after, GivesEach-after, Tells-Builds, among_all}
 use Rattle.ap_ctl.proofs.Stages.{among_l, among_r}
 
 -- more nets to be from

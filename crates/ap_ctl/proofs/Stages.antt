@@ -1,6 +1,6 @@
 -- What makes a stage busy, by nets and by what control looks at.
-use Rattle.std.proofs.Common.{◌≡◌, ℕ, zero, suc, ◌+◌, ◌-◌, ◌^◌, ◌<◌, ◌≤◌, Bool, true, false, List, [], ◌∷◌, ◌++◌, length, map, flat_map, inl, inr, refl, sym, ap, subst, ◌∙◌, arith}
-use Rattle.std.specs.Prelude.{◌==◌, ◌&&◌, ◌||◌, slice_get, Some}
+use Rattle.std.proofs.Common.{◌≡◌, ℕ, zero, suc, ◌+◌, ◌^◌, ◌<◌, Bool, true, false, List, [], ◌∷◌, ◌++◌, length, map, flat_map, inl, inr, refl, sym, ap, subst, ◌∙◌, arith}
+use Rattle.std.specs.Prelude.{◌&&◌, ◌||◌, slice_get, Some}
 use Rattle.std.specs.List.{AllByRecursion as Each, list_any, range_with_len}
 use Rattle.std.proofs.lemmas.List.{map-append}
 use Rattle.std.proofs.lemmas.List.Folds.{list_any-append}
@@ -16,7 +16,7 @@ use Rattle.ap_net.specs.Readings.{Reading, IsSettled}
 use Rattle.ap_ctl.specs.declared.nets.ControlGiven.{ControlGiven}
 use Rattle.ap_ctl.specs.Building.{GivesEach, Tells, is_on}
 use Rattle.ap_ctl.specs.Given.{IsWordNet, memory_nets, unit_nets}
-use Rattle.ap_ctl.specs.Lists.{EachFrom, EachPair}
+use Rattle.ap_ctl.specs.Lists.{EachPair}
 use Rattle.ap_ctl.specs.Meaning.{Look, Sees, is_busy}
 use Rattle.ap_ctl.specs.Moves.{busy_numbers, stage_numbers}
 use Rattle.ap_ctl.specs.Nets.{AreDecoded}

@@ -1,8 +1,8 @@
 -- The tests of all instructions, each once: those that an instruction wants are among them.
-use Rattle.std.proofs.Common.{◌≡◌, ℕ, zero, suc, ◌+◌, ◌<◌, Bool, true, false, List, [], ◌∷◌, ◌++◌, length, map, get_or, take, append-nil, inl, inr, refl, sym, ap, subst, ◌∙◌, arith, flat_map}
-use Rattle.std.specs.Prelude.{◌==◌, ◌&&◌, ◌||◌, ◌⊎◌, not, if◌then◌else◌, filter, fold}
+use Rattle.std.proofs.Common.{◌≡◌, ℕ, ◌+◌, ◌<◌, Bool, true, false, List, [], ◌∷◌, ◌++◌, length, map, get_or, take, append-nil, inl, inr, refl, sym, ap, subst, ◌∙◌, flat_map}
+use Rattle.std.specs.Prelude.{◌==◌, ◌&&◌, if◌then◌else◌, filter, fold}
 use Rattle.std.specs.List.{AllByRecursion as Each, list_all, list_any}
-use Rattle.std.proofs.lemmas.Bool.{and_from, and_parts, cases_Bool, eq-eqb, eqb-true, or_cases, or_from, or_left, or_parts, or_right, false_from_ne_true, both_ways}
+use Rattle.std.proofs.lemmas.Bool.{and_from, and_parts, eq-eqb, eqb-true, or_cases, or_from, or_left, or_parts, or_right, false_from_ne_true, both_ways}
 use Rattle.std.proofs.lemmas.List.Folds.{list_any-append}
 use Rattle.std.proofs.lemmas.Grind.{flat_map-append, fold-append}
 use Rattle.std.proofs.lemmas.List.{map-append, take_more}
@@ -11,7 +11,7 @@ use Rattle.ap_desc.specs.declared.design.Design.{Design}
 use Rattle.ap_desc.specs.declared.design.Instr.{Instr}
 use Rattle.ap_ctl.specs.declared.decode.Compared.{Compared}
 use Rattle.ap_ctl.specs.declared.field.FieldTest.{FieldTest}
-use Rattle.ap_ctl.specs.Decoding.{FitsWord, NoneTwice, compared_in, field_tests, is_same_test, is_wanted, passes, tests_of, with_test, with_tests}
+use Rattle.ap_ctl.specs.Decoding.{NoneTwice, compared_in, field_tests, is_same_test, is_wanted, passes, tests_of, with_test, with_tests}
 use Rattle.ap_ctl.proofs.Fields.{same_truth}
 
 -- tests that are the same are equal

@@ -1,6 +1,6 @@
 -- The registers of the valid bits.
 use Rattle.std.proofs.Common.{◌≡◌, ◌≢◌, ℕ, zero, suc, ◌+◌, ◌^◌, ◌<◌, ◌≤◌, List, [], ◌∷◌, ◌++◌, length, map, drop, take, refl, sym, ap, subst, ◌∙◌, arith, append-nil, append_assoc, length-append}
-use Rattle.std.specs.Prelude.{codes, slice_get, Some, zip}
+use Rattle.std.specs.Prelude.{slice_get, Some, zip}
 use Rattle.std.specs.Fmt.{decimal}
 use Rattle.std.specs.List.{AllByRecursion as Each, range_with_len}
 use Rattle.std.proofs.lemmas.Fmt.{decimal_digit, decimal_injective}
@@ -10,7 +10,7 @@ use Rattle.ap_net.specs.declared.cell.Wire.{Wire}
 use Rattle.ap_net.specs.declared.net.ModuleNet.{ModuleNet}
 use Rattle.ap_net.specs.declared.net.Next.{Next}
 use Rattle.ap_net.specs.declared.net.Role.TheVariants as role
-use Rattle.ap_net.specs.Draft.{Draft, Extends, with_net, with_next, names_of}
+use Rattle.ap_net.specs.Draft.{Draft, with_net, with_next, names_of}
 use Rattle.std.proofs.lemmas.List.Elements.{filter_map-append}
 use Rattle.ap_net.specs.Modules.{port_by, ports_among}
 use Rattle.ap_net.specs.Names.{IsNetName, IsNew, IsNotNumbered}

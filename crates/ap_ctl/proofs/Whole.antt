@@ -1,5 +1,5 @@
 -- Control as a whole: the valid bits, the rest, and what the valid bits take.
-use Rattle.std.proofs.Common.{◌≡◌, ◌≢◌, ℕ, zero, suc, ◌+◌, ◌-◌, ◌<◌, ◌≤◌, List, [], ◌∷◌, ◌++◌, length, map, replicate, Some, inl, inr, ⊎_elim, refl, sym, ap, subst, ◌∙◌, arith, append-nil, append_assoc, length-append}
+use Rattle.std.proofs.Common.{◌≡◌, ◌≢◌, ℕ, zero, suc, ◌+◌, ◌-◌, ◌<◌, ◌≤◌, List, [], ◌∷◌, ◌++◌, length, map, replicate, Some, ⊎_elim, refl, sym, ap, subst, ◌∙◌, arith, append-nil, length-append}
 use Rattle.std.specs.Prelude.{Bool, slice_get, zip, Contains}
 use Rattle.std.specs.List.{AllByRecursion as Each, range_with_len}
 use Rattle.std.proofs.lemmas.Bool.{cases_lt}
@@ -16,15 +16,14 @@ use Rattle.ap_net.specs.Draft.{Draft, CanFresh, Extends, IsKept, names_of}
 use Rattle.ap_net.specs.Late.{StayLate}
 use Rattle.ap_net.specs.Modules.{ports_among}
 use Rattle.ap_net.specs.Names.{IsNew}
-use Rattle.ap_net.specs.Pending.{Among}
 use Rattle.ap_net.specs.Readings.{Carries}
 use Rattle.ap_net.specs.Ready.{AreReady, Dependence, Ready, ReadyAfter, numbers}
-use Rattle.ap_net.specs.Wiring.{IsRegister, NextFits, Unclocked, reset_of}
-use Rattle.ap_net.proofs.Laws.{Carries-Extends, Extends-trans, Ready-source, ReadyAfter-Extends, stays}
+use Rattle.ap_net.specs.Wiring.{NextFits, Unclocked, reset_of}
+use Rattle.ap_net.proofs.Laws.{Carries-Extends, Extends-trans, Ready-source, stays}
 use Rattle.ap_ctl.specs.declared.control.Made.{Made}
 use Rattle.ap_ctl.specs.declared.nets.ControlGiven.{ControlGiven}
 use Rattle.ap_ctl.specs.declared.nets.ControlNets.{ControlNets}
-use Rattle.ap_ctl.specs.Building.{AddsAssigns, BuildsComparing, IsBit, IsComparison, IsControlAssign, IsFreshWire, Tells, comparisons}
+use Rattle.ap_ctl.specs.Building.{BuildsComparing, IsBit, IsComparison, IsControlAssign, Tells, comparisons}
 use Rattle.ap_ctl.specs.Decoding.{compared_in}
 use Rattle.ap_ctl.specs.Given.{IsGiven, IsWordNet, holding, killing}
 use Rattle.ap_ctl.specs.Lists.{EachFrom, EachPair}
@@ -33,7 +32,7 @@ use Rattle.ap_ctl.specs.Meaning.{Look, fires, is_held, kills, next_valid}
 use Rattle.ap_ctl.specs.Nets.{AddsControl, AreDecoded, KeepsOthers, FollowsGiven, FollowsWord, IsControl, IsFreeRegister, LooksAtNone, Shows, Takes, next_by, valid_net, valid_nets, valid_wires, with_nexts, with_valid}
 use Rattle.ap_ctl.proofs.Bits.{IsBit-Carries}
 use Rattle.ap_ctl.proofs.Beside.{EachFrom-second, EachFrom-both, EachFrom-replicate, EachFrom-weaker, EachPair-weaker, Each-replicate}
-use Rattle.ap_ctl.proofs.Built.{comparison_later, Each-join, Each-weaker, IsBit-Extends, among_all}
+use Rattle.ap_ctl.proofs.Built.{comparison_later, Each-join, Each-weaker, IsBit-Extends}
 use Rattle.ap_ctl.proofs.Decoded.{words_later}
 
 -- The valid bits.

@@ -1,5 +1,5 @@
 -- What control gives of the border between a circuit's cycle and what it stores.
-use Rattle.std.specs.Prelude.{◌≡◌, ℕ, ◌+◌, ◌-◌, ◌%◌, ◌^◌, ◌≤◌, if◌then◌else◌, Bool, true, false, Option, Some, None, is_some, unwrap_or}
+use Rattle.std.specs.Prelude.{◌≡◌, ℕ, ◌+◌, ◌-◌, ◌%◌, ◌^◌, ◌≤◌, if◌then◌else◌, true, false, Some, None, is_some, unwrap_or}
 use Rattle.ap_desc.specs.declared.design.Design.{Design}
 use Rattle.ap_cycle.specs.Circuit.{EachStage, HoldsBusy}
 use Rattle.ap_cycle.specs.Signals.{Signals, goes_on}

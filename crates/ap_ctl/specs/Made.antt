@@ -8,7 +8,7 @@ use Rattle.ap_ctl.specs.declared.control.Made.{Made}
 use Rattle.ap_ctl.specs.declared.nets.ControlGiven.{ControlGiven}
 use Rattle.ap_ctl.specs.Given.{holding}
 use Rattle.ap_ctl.specs.Lists.{EachFrom, EachPair}
-use Rattle.ap_ctl.specs.Meaning.{Look, fires, is_held, kills, next_valid}
+use Rattle.ap_ctl.specs.Meaning.{fires, is_held, kills, next_valid}
 use Rattle.ap_ctl.specs.Nets.{AreDecoded, FollowsWord, Shows}
 
 -- what each of them always tells

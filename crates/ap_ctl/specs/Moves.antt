@@ -1,5 +1,5 @@
 -- What lets the flights of a cycle go on, by nets.
-use Rattle.std.specs.Prelude.{◌≡◌, ℕ, zero, suc, ◌-◌, ◌&&◌, not, if◌then◌else◌, Bool, false, List, [], ◌∷◌, ◌++◌, flat_map, slice_get}
+use Rattle.std.specs.Prelude.{ℕ, zero, suc, ◌-◌, ◌&&◌, not, if◌then◌else◌, Bool, false, List, ◌∷◌, ◌++◌, flat_map, slice_get}
 use Rattle.std.specs.Option.{option_map_or}
 use Rattle.ap_desc.specs.declared.design.Design.{Design}
 use Rattle.ap_net.specs.declared.cell.Wire.{Wire}

@@ -1,11 +1,10 @@
 -- The nets of control: what each of them always tells, what came with them, and what they follow from.
-use Rattle.std.specs.Prelude.{◌≡◌, ◌≢◌, ℕ, ◌+◌, ◌-◌, ◌<◌, ◌≤◌, ◌==◌, Bool, List, [], ◌∷◌, ◌++◌, length, map, zip, slice_get, Some, Contains}
+use Rattle.std.specs.Prelude.{◌≡◌, ◌≢◌, ℕ, ◌-◌, ◌<◌, ◌≤◌, Bool, List, [], ◌∷◌, ◌++◌, length, map, zip, Contains}
 use Rattle.std.specs.List.{AllByRecursion as Each, range_with_len}
 use Rattle.ap_desc.specs.declared.design.Design.{Design}
 use Rattle.ap_desc.specs.declared.design.Instr.{Instr}
 use Rattle.ap_model.specs.Fire.{is_match}
 use Rattle.ap_net.specs.declared.cell.Wire.{Wire}
-use Rattle.ap_net.specs.declared.net.Assign.{Assign}
 use Rattle.ap_net.specs.declared.net.ModuleNet.{ModuleNet}
 use Rattle.ap_net.specs.declared.net.Next.{Next}
 use Rattle.ap_net.specs.declared.net.Role.TheVariants as role
@@ -13,7 +12,7 @@ use Rattle.ap_net.specs.Draft.{Draft, Extends, CanFresh, names_of}
 use Rattle.ap_net.specs.Late.{StayLate}
 use Rattle.ap_net.specs.Modules.{ports_among}
 use Rattle.ap_net.specs.Names.{IsNew, IsNotNumbered}
-use Rattle.ap_net.specs.Readings.{Reading, Carries}
+use Rattle.ap_net.specs.Readings.{Carries}
 use Rattle.ap_net.specs.Ready.{Dependence, ReadyAfter}
 use Rattle.ap_net.specs.Runs.{bit}
 use Rattle.ap_net.specs.Wiring.{IsRegister, Unclocked}

@@ -1,4 +1,3 @@
 pub mod Going
-pub mod Limits
 pub mod Orders
 pub mod UseFacts

@@ -13,7 +13,7 @@ use Rattle.ap_desc.specs.declared.design.Micro.{Micro}
 use Rattle.ap_path.specs.Uses.{guard_of, handed, operand_at, port_of_line, use_of, uses_in, uses_of}
 use Rattle.ap_path.specs.declared.table.PathPort.{PathPort}
 use Rattle.ap_path.specs.declared.table.PathUse.{PathUse}
-use Rattle.ap_path.proofs.Limits.{few_instrs, few_lines}
+use Rattle.ap_ports.proofs.Limits.{few_instrs, few_lines}
 
 -- where an element of a list of lists comes from
 pub flat_from : {X Y : Type 0} (f : X → List Y) (xs : List X) (y : Y) → In y (flat_map f xs) → (x : X) × In x xs × In y (f x)

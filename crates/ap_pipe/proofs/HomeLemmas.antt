@@ -19,7 +19,7 @@ use Rattle.ap_model.proofs.LineOrder.{count, widths_count}
 use Rattle.ap_model.specs.FlightLocals.{is_live_in, looks_at}
 use Rattle.ap_model.specs.Fitting.{assigned_by, lines_before}
 use Rattle.ap_path.proofs.Going.{flat_step, get_pushed, rest_at}
-use Rattle.ap_path.proofs.Limits.{few_lines}
+use Rattle.ap_ports.proofs.Limits.{few_lines}
 use Rattle.ap_path.proofs.UseFacts.{filter_from, flat_from, in_filtered}
 use Rattle.ap_pipe.specs.Live.{IsLive, live_locals, live_widths}
 use Rattle.ap_pipe.specs.Ranks.{carried, homes_from, homes_of, is_carried, ranked, ranked_slots, ranked_widths}

@@ -14,6 +14,7 @@ pub mod Loops
 pub mod Recounted
 pub mod Holding
 pub mod Kept
+pub mod Limits
 pub mod Made
 pub mod Counted
 pub mod Added

@@ -6,7 +6,7 @@ use Rattle.std.proofs.lemmas.Bool.{and_parts, leb-true}
 use Rattle.std.proofs.lemmas.List.Filters.{length-filter_more}
 use Rattle.std.proofs.lemmas.Option.{get_or_from_slice_get, same_Some, slice_get_within}
 use Rattle.ap_desc.specs.Chains.{makers, operands_of}
-use Rattle.ap_desc.specs.Designs.{AreInRange, IsArg, IsInRange, IsInstr, IsRight, assigned_count, is_instr_within, is_stage}
+use Rattle.ap_desc.specs.Designs.{AreInRange, IsArg, IsInRange, IsInstr, IsRight, assigned_count}
 use Rattle.ap_desc.specs.Sound.{IsSound}
 use Rattle.ap_desc.specs.declared.design.Act.{Act}
 use Rattle.ap_desc.specs.declared.design.Act.TheVariants as act
@@ -19,7 +19,8 @@ use Rattle.ap_desc.specs.declared.design.Instr.{Instr}
 use Rattle.ap_desc.specs.declared.design.Micro.{Micro}
 use Rattle.ap_ports.specs.Flow.{IsLocalOf, made_by}
 use Rattle.ap_ports.specs.Numbers.{IsNumbered}
-use Rattle.ap_ports.proofs.Members.{each_get, passes_at, place_of, some_and}
+use Rattle.ap_ports.proofs.Limits.{few_lines}
+use Rattle.ap_ports.proofs.Members.{each_get, place_of, some_and}
 use Rattle.ap_ports.proofs.Numbered.{contained_numbered}
 
 abbrev makes : Micro → Bool
@@ -139,11 +140,6 @@ each_wider count (_ ∷ xs) le h = (tt, each_wider count xs le h.1)
 
 pub local_operands : (design : Design) (instr : Instr) (place : ℕ) (m : Micro) → IsLine design instr place m → Each (IsLocalOf 64) (operands_of m.act)
 local_operands design instr place m line = let room = line.room in each_wider (made_by (take place instr.micros)) (operands_of m.act) (omega arith) line.operands
-
-few_lines : (design : Design) → IsSound design → (number : ℕ) (instr : Instr) → slice_get design.instrs number ≡ Some instr → length instr.micros ≤ 64
-few_lines design sound number instr at =
-    let within = passes_at (is_instr_within design.stages) design.instrs (and_parts (nat_le (length design.instrs) 256) (list_all (is_instr_within design.stages) design.instrs) sound.within.instrs).1 number instr at in
-    leb-true (length instr.micros) 64 (and_parts (nat_le (length instr.micros) 64) (list_all (λ (m : Micro). is_stage design.stages m.stage) instr.micros) within).0
 
 pub line_of : (design : Design) → IsSound design → (instr : Instr) → Contains design.instrs instr → (place : ℕ) (m : Micro) → slice_get instr.micros place ≡ Some m → IsLine design instr place m
 line_of design sound instr there place m at =

@@ -8,7 +8,7 @@ use Rattle.ap_desc.specs.declared.fault.Fault.{Fault}
 use Rattle.ap_desc.specs.declared.fault.Fault.TheVariants as f
 use Rattle.ap_desc.specs.Faults as faults
 use Rattle.ap_desc.specs.Limits.{description_limit}
-use Rattle.ap_desc.specs.Faults.{IsWellFormed, IsLeastFormFault}
+use Rattle.ap_desc.specs.Meaning.{IsAccepted}
 use Rattle.ap_desk.specs.Files.{Becomes, BecomesFrontOrStays, Files, Goes, ReadsUpTo, content}
 use Rattle.ap_top.specs.declared.command.Command.{Command}
 use Rattle.ap_top.specs.declared.command.Command.TheVariants.{Gen}
@@ -33,6 +33,7 @@ use Rattle.ap_top.specs.Outputs.{Target, FromGood, IsBegunOn, Writes}
 use Rattle.ap_top.specs.Refusals.{IsOrMemory, refusal_status, stop_of}
 use Rattle.ap_top.specs.Troubles.{StopsOn}
 use Rattle.ap_top.proofs.Matching.{lengths_of}
+use Rattle.ap_top.proofs.TextFaults.{form_alone, form_first}
 
 module _ (cards : List Card) where
   -- the first lines of a form's lines begin the form
@@ -50,7 +51,7 @@ module _ (cards : List Card) where
 
   -- a description without fault has none
   good_not_refused : (text : List ℕ) (form : Form) (judged : Judged) → IsFormDescription cards text form → HasJudgedFault cards text judged → ⊥
-  good_not_refused text form (judged.Refused refusal) good fault = good.faultless refusal.kind refusal.line fault.holds
+  good_not_refused text form (judged.Refused refusal) good fault = good.faultless refusal.kind refusal.line fault.holds.holds
   good_not_refused text form (judged.NotBuilt line) good fault = built (lines_of text) form line good.first.lines good.first.ranges good.unit fault.1
 
   input_not_refused : (before : List (List ℕ)) (kind : Input) (text : List ℕ) (refusal : Refusal) → inputs.IsFaultless cards before kind text → IsRefused cards before kind text refusal → ⊥
@@ -102,19 +103,21 @@ module _ (cards : List Card) where
   long_faults one other long long' f.TooLong line h = (h.0, long')
   long_faults one other long long' _ line h = let short = h.0 in absurd (omega arith)
 
-  long_never : (text : List ℕ) → description_limit < length text → IsWellFormed text → ⊥
-  long_never text long none = none f.TooLong 0 (refl, long)
+  long_never : (text : List ℕ) → description_limit < length text → IsAccepted text cards → ⊥
+  long_never text long none = none f.TooLong 0 (inl (refl, long))
 
   -- the bytes that were read are the file, or both are too long
   read_same : (files : Files) (name bytes : List ℕ) → ReadsUpTo files name 1048576 bytes → (bytes ≡ content files name) ⊎ ((description_limit < length bytes) × (description_limit < length (content files name)))
   read_same files name bytes h = ⊎_elim (λ long. inr (h.longer.1 long, long)) (λ short. inl (h.whole short)) (cases_lt 1048576 (length (content files name)))
 
   long_refused : (one other : List ℕ) (judged : Judged) → description_limit < length one → description_limit < length other → HasJudgedFault cards one judged → HasJudgedFault cards other judged
-  long_refused one other (judged.Refused refusal) long long' h = record {
-    phase = h.phase;
-    holds = long_faults one other long long' refusal.kind refusal.line h.holds;
-    least = λ kind line fault. h.least kind line (long_faults other one long' long kind line fault);
-  }
+  long_refused one other (judged.Refused refusal) long long' h =
+      let least = form_alone one cards f.TooLong 0 (refl, long) refusal h in
+      form_first other cards refusal (record {
+        phase = least.phase;
+        holds = long_faults one other long long' refusal.kind refusal.line least.holds;
+        least = λ kind line fault. least.least kind line (long_faults other one long' long kind line fault);
+      })
   long_refused one other (judged.NotBuilt line) long long' h = absurd (long_never one long h.0)
 
   file_refused : (files : Files) (name bytes : List ℕ) (judged : Judged) → ReadsUpTo files name 1048576 bytes → HasJudgedFault cards bytes judged → HasJudgedFault cards (content files name) judged

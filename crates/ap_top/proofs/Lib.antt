@@ -11,4 +11,5 @@ pub mod TwoStage
 pub mod FormUnit
 pub mod Behaviour
 pub mod Sure
+pub mod TextFaults
 pub mod Additions

@@ -1,11 +1,17 @@
 -- A worked example: the first rows of one small processor, computed from the definitions.
-use Rattle.std.specs.Prelude.{◌≡◌, ℕ, List, [], ◌∷◌, map, codes, None, false}
+use Rattle.std.specs.Prelude.{◌≡◌, ℕ, List, [], ◌∷◌, map, codes, Some, None, false}
 use Rattle.ap_bits.specs.declared.term.BinOp.TheVariants.{Add}
 use Rattle.ap_bits.specs.declared.term.Term.{Bin, A, B}
 use Rattle.ap_bits.specs.declared.card.Card.{Card}
 use Rattle.ap_bits.specs.declared.card.Widths.TheVariants.{Any}
 use Rattle.ap_bits.specs.declared.card.Latency.TheVariants.{One}
 use Rattle.ap_desc.specs.declared.description.Numbered.{Numbered}
+use Rattle.ap_desc.specs.declared.design.Act.TheVariants as act
+use Rattle.ap_desc.specs.declared.design.Arg.TheVariants as arg
+use Rattle.ap_desc.specs.declared.design.Design.{Design}
+use Rattle.ap_desc.specs.declared.design.Field.{Field}
+use Rattle.ap_desc.specs.declared.design.Instr.{Instr}
+use Rattle.ap_desc.specs.declared.design.Micro.{Micro}
 use Rattle.ap_desc.specs.declared.statement.Statement.TheVariants as s
 use Rattle.ap_desc.specs.declared.statement.Word.TheVariants.{Named}
 use Rattle.ap_image.specs.declared.image.Image.{Image}
@@ -43,6 +49,37 @@ example_statements =
     ∷ record { line = 11; statement = s.ReadRegister 1 (codes "a") (codes "R") } ∷ record { line = 12; statement = s.Const 1 (codes "k") 8 250 }
     ∷ record { line = 13; statement = s.Compute 1 (codes "s") (codes "U") (codes "add") (Named (codes "a")) (Named (codes "k")) }
     ∷ record { line = 14; statement = s.WriteRegister 1 (codes "R") (Named (codes "s")) None } ∷ record { line = 15; statement = s.End } ∷ []
+
+-- the design that it means: NOP, and the instruction that adds
+abbrev pub example_fields : List Field
+example_fields = record { name = codes "op"; width = 8; low = 0 } ∷ []
+
+abbrev pub example_micros : List Micro
+example_micros =
+    record { line = 11; stage = 1; act = act.ReadReg 0 } ∷ record { line = 12; stage = 1; act = act.Const 8 250 }
+    ∷ record { line = 13; stage = 1; act = act.Compute 0 0 (arg.Local 0) (arg.Local 1) } ∷ record { line = 14; stage = 1; act = act.WriteReg 0 (arg.Local 2) None } ∷ []
+
+abbrev pub example_instrs : List Instr
+example_instrs =
+    record { name = codes "NOP"; line = 8; format = 0; fixed = Some 0 ∷ []; fixed_mask = 255; fixed_value = 0; locals = []; micros = [] }
+    ∷ record { name = codes "I"; line = 10; format = 0; fixed = Some 1 ∷ []; fixed_mask = 255; fixed_value = 1; locals = 8 ∷ 8 ∷ 8 ∷ []; micros = example_micros } ∷ []
+
+abbrev pub example_design : Design
+example_design = record {
+  stages = 2;
+  address = 4;
+  word = 8;
+  branch = 1;
+  slots = 0;
+  transfer_line = 4;
+  regs = record { name = codes "R"; width = 8; reset = 3 } ∷ [];
+  files = [];
+  mems = [];
+  inputs = [];
+  units = record { name = codes "U"; kind = 0; width = 8; latency = 1 } ∷ [];
+  formats = record { name = codes "F"; line = 7; fields = example_fields } ∷ [];
+  instrs = example_instrs;
+}
 
 -- the adding instruction twice
 abbrev pub example_image : Image

@@ -5,7 +5,8 @@ use Rattle.ap_bits.specs.Beside.{EachBeside}
 use Rattle.ap_bits.specs.declared.card.Card.{Card}
 use Rattle.ap_text.specs.Lines.{TextLine, lines_of}
 use Rattle.ap_text.specs.Numbers.{number_value}
-use Rattle.ap_desc.specs.Faults.{IsWellFormed, IsLeastFormFault, StandsAt}
+use Rattle.ap_desc.specs.Faults.{StandsAt}
+use Rattle.ap_desc.specs.Meaning.{IsAccepted, IsLeastFault}
 use Rattle.ap_desc.specs.declared.fault.DescFault.{DescFault}
 use Rattle.ap_desc.specs.declared.fault.DescFault.TheVariants as fault
 use Rattle.ap_top.specs.declared.form.Form.{Form}
@@ -137,14 +138,19 @@ pub record IsFirstForm (text : List ℕ) (form : Form) : Type 0 where
 
 -- the text is a description without fault, of the form with these numbers, whose unit the shelf has
 pub record IsFormDescription (cards : List Card) (text : List ℕ) (form : Form) : Type 0 where
-  pub faultless : IsWellFormed text
+  pub faultless : IsAccepted text cards
   pub first : IsFirstForm text form
   pub unit : HasAddition cards form.width
 
--- the fault is the text's: its least fault of form; or it has none, and isn't of the form from this line on
+-- why a text isn't accepted: this is its least fault, or memory ran out
+abbrev pub IsTextFault : List ℕ → List Card → DescFault → Type 0
+IsTextFault text cards (fault.Refused refusal) = IsLeastFault text cards refusal
+IsTextFault text cards fault.NoMemory = Unit {0}
+
+-- the fault is the text's least one; or it has none, and isn't of the form from this line on
 abbrev pub HasJudgedFault : List Card → List ℕ → Judged → Type 0
-HasJudgedFault cards text (judged.Refused refusal) = IsLeastFormFault text refusal
-HasJudgedFault cards text (judged.NotBuilt line) = IsWellFormed text × IsNotBuiltAt cards (lines_of text) line
+HasJudgedFault cards text (judged.Refused refusal) = IsLeastFault text cards refusal
+HasJudgedFault cards text (judged.NotBuilt line) = IsAccepted text cards × IsNotBuiltAt cards (lines_of text) line
 
 -- why reading a text gave no form
 abbrev pub HasReadFault : List Card → List ℕ → ReadFault → Type 0

@@ -1,13 +1,15 @@
-ghost use Rattle.std.specs.Prelude.{◌≡◌, IfErr, IfOk, map};
+ghost use Rattle.std.specs.Prelude.{◌≡◌, IfErr, IfOk, OnOk, map};
+ghost use Rattle.ap_desc.specs.Meaning.{IsAccepted};
 ghost use Rattle.ap_text.specs.Spans.{AreLinesWithin, line_in};
 ghost use Rattle.ap_unit.specs.Shelves.{cards_of};
-ghost use Rattle.ap_top.specs.Form.{AreLines, HasAddition, IsFormDescription, IsForm, IsNotBuilt, HasReadFault, first_form, reading_of};
+ghost use Rattle.ap_top.specs.Form.{AreLines, HasAddition, IsFormDescription, IsForm, IsNotBuilt, HasReadFault, IsTextFault, first_form, reading_of};
 ghost use Rattle.ap_top.specs.Found.{IsServed};
 ghost use Rattle.ap_top.specs.declared.form.ReadFault.TheVariants as fault;
 
 use crate::addition::find_addition;
 use crate::numbers::Numbers;
 use crate::pattern;
+use ap_check::resolve;
 use ap_desc::{DescFault, Refusal};
 use ap_read::read;
 use ap_text::{Line, lines};
@@ -82,16 +84,26 @@ impl From<Judged> for ReadFault {
     }
 }
 
+/// Judges a text: `Refused` for its least fault, of form or of meaning.
+fn accept(alloc: Global, text: &[u8], shelf: &Shelf) -> Result<(), DescFault>
+    ensures accepted { OnOk result (IsAccepted text.now (cards_of card shelf.now)) }
+    ensures refused { IfErr result (IsTextFault text.now (cards_of card shelf.now)) }
+{
+    let description = read(alloc, text)?;
+    let _design = resolve(alloc, &description, shelf)?;
+    Ok(())
+}
+
 /// The form of a description.
 ///
-/// Where the text has a fault of form, it is `Refused` for the least one. Any other text that isn't of the first form is
-/// `NotBuilt`, at the first line whose tokens aren't those due, or at line 0 where the text ends before the fifteen lines.
-/// The line `unit` isn't due where the shelf has no operation `add` of a kind `alu` for its width.
+/// Where the text has a fault, of form or of meaning, it is `Refused` for the least one. Any other text that isn't of the first
+/// form is `NotBuilt`, at the first line whose tokens aren't those due, or at line 0 where the text ends before the fifteen
+/// lines. The line `unit` isn't due where a unit of the shelf's kind `alu` takes more than one cycle.
 pub fn judge(alloc: Global, text: &[u8], shelf: &Shelf) -> Result<Form, ReadFault>
     ensures form { IfOk result (IsFormDescription (cards_of card shelf.now) text.now) }
     ensures refused { IfErr result (HasReadFault (cards_of card shelf.now) text.now) }
 {
-    let _ = read(alloc, text)?;
+    accept(alloc, text, shelf)?;
     let list = lines(alloc, text)?;
     let form = read_form(text, list.as_slice(), shelf)?;
     Ok(form)

@@ -9,3 +9,5 @@ mod calls;
 mod names_and_widths;
 #[cfg(test)]
 mod texts;
+#[cfg(test)]
+mod words_ports_and_stages;

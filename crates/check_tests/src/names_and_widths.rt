@@ -8,7 +8,7 @@ fn accepted_lines() -> [(u32, &'static str); 19] {
     [
         (0, ""),
         (1, "stages 8"),
-        (4, "transfer 3 8"),
+        (4, "transfer 2 2"),
         (5, "reg R 16 0"),
         (6, "reg ONE 1 1"),
         (17, "  1 a = F.r1 rs"),
@@ -120,7 +120,11 @@ fn names_faults_of_names(rt: HostRuntime) -> Result<(), Fail> {
     let alloc = rt.alloc();
     for (number, line, kind) in name_faults() {
         let text = changed(alloc, base(), number, line)?;
-        assert_eq!(rt; fault_of(alloc, text.as_str())?, Some((kind, number)), "{line}");
+        assert_eq!(rt;
+            fault_of(alloc, text.as_str())?,
+            Some((kind, number)),
+            "{line}"
+        );
     }
     Ok(())
 }
@@ -130,7 +134,11 @@ fn names_faults_of_widths(rt: HostRuntime) -> Result<(), Fail> {
     let alloc = rt.alloc();
     for (number, line, kind) in width_faults() {
         let text = changed(alloc, base(), number, line)?;
-        assert_eq!(rt; fault_of(alloc, text.as_str())?, Some((kind, number)), "{line}");
+        assert_eq!(rt;
+            fault_of(alloc, text.as_str())?,
+            Some((kind, number)),
+            "{line}"
+        );
     }
     Ok(())
 }
@@ -141,9 +149,17 @@ fn two_changes() -> [((u32, &'static str), (u32, &'static str), (Fault, u32)); 7
         ((1, "stages 9"), (39, "  2 jump t"), (Fault::Unknown, 39)),
         ((5, "reg R 65 0"), (39, "  2 jump t"), (Fault::Unknown, 39)),
         ((5, "reg R 65 0"), (6, "reg ONE 66 0"), (Fault::Range, 5)),
-        ((19, "  1 p = in R"), (22, "  2 s = U.mullo a i"), (Fault::Unknown, 19)),
+        (
+            (19, "  1 p = in R"),
+            (22, "  2 s = U.mullo a i"),
+            (Fault::Unknown, 19),
+        ),
         ((7, "file F 16 8 0 1"), (0, ""), (Fault::Unknown, 17)),
-        ((23, "  2 x = slice 18446744073709551615 0 s"), (28, "  3 F.w1 rd v"), (Fault::Unknown, 28)),
+        (
+            (23, "  2 x = slice 18446744073709551615 0 s"),
+            (28, "  3 F.w1 rd v"),
+            (Fault::Unknown, 28),
+        ),
         (
             (26, "  2 w = cat k k\n  2 y = cat w w\n  2 z = cat y g"),
             (0, ""),

@@ -48,6 +48,18 @@ end
 "
 }
 
+/// The smallest one, whose one instruction does nothing.
+pub fn small() -> &'static str {
+    "stages 2
+address 4
+word 8
+transfer 1 0
+format R op:8
+instr NOP R op=0
+end
+"
+}
+
 /// A larger one, with transfers, a file, a memory and an input; it has no fault.
 pub fn larger() -> &'static str {
     "stages 4

@@ -1,0 +1,2 @@
+mod AloneDriven
+mod Clean

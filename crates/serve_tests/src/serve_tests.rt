@@ -2,7 +2,7 @@ use crate::kinds::{LessAndSum, empty_shelf, shelf_of};
 use ap_desk::desk::Desk;
 use ap_desk::memory::{DeskCall, MemDesk};
 use ap_desk::sure::SureDesk;
-use ap_top::form::{Form, Judged, ReadFault, judge};
+use ap_top::form::{Form, ReadFault, judge};
 use ap_top::serve::serve;
 use ap_unit::{Shelf, UnitKind};
 use std::alloc::{AllocError, Global};
@@ -182,14 +182,14 @@ fn changes_with_a_fault() -> [(&'static str, &'static str, &'static str); 7] {
     [
         ("stages 2", "stages 3", "line 1: F0 NotBuilt"),
         ("word 8", "word two", "line 3: F1 BadLine"),
-        ("word 8", "word 65", "line 3: F0 NotBuilt"),
+        ("word 8", "word 65", "line 3: W1 Range"),
         ("format", "address 4\nformat", "line 7: F2 BadOrder"),
         ("transfer 1 0\n", "", "line 0: F4 Missing"),
         ("s\nend\n", "s\n", "line 0: F4 Missing"),
         (
             "s\nend\n",
             "s\nend\ninstr J F\nend\n",
-            "line 16: F0 NotBuilt",
+            "line 16: E3 Overlap",
         ),
     ]
 }
@@ -327,37 +327,49 @@ fn spellings_of_forms() -> [([&'static str; 6], Form); 3] {
     ]
 }
 
-/// Numbers outside their ranges, or none, with the line where the first one stands.
-fn spellings_of_none() -> [([&'static str; 6], u32); 10] {
+/// Numbers outside their ranges, with what is judged of the first one.
+fn spellings_of_none() -> [([&'static str; 6], &'static str); 10] {
     [
-        (["3", "8", "8", "3", "1", "250"], 2),
-        (["17", "8", "8", "3", "1", "250"], 2),
-        (["4", "7", "8", "3", "1", "250"], 3),
-        (["4", "65", "8", "3", "1", "250"], 3),
-        (["4", "8", "0", "0", "1", "0"], 5),
-        (["4", "8", "65", "3", "1", "250"], 5),
-        (["4", "8", "8", "256", "1", "250"], 5),
-        (["4", "8", "8", "3", "0", "250"], 10),
-        (["4", "8", "8", "3", "256", "250"], 10),
-        (["4", "8", "8", "3", "1", "256"], 12),
+        (["3", "8", "8", "3", "1", "250"], "line 2: W1 Range"),
+        (["17", "8", "8", "3", "1", "250"], "line 2: W1 Range"),
+        (["4", "7", "8", "3", "1", "250"], "line 3: W1 Range"),
+        (["4", "65", "8", "3", "1", "250"], "line 3: W1 Range"),
+        (["4", "8", "0", "0", "1", "0"], "line 5: W1 Range"),
+        (["4", "8", "65", "3", "1", "250"], "line 5: W1 Range"),
+        (
+            ["4", "8", "8", "256", "1", "250"],
+            "line 5: W4 TooWideConstant",
+        ),
+        (["4", "8", "8", "3", "0", "250"], "line 10: E3 Overlap"),
+        (["4", "8", "8", "3", "256", "250"], "line 10: E2 FieldValue"),
+        (
+            ["4", "8", "8", "3", "1", "256"],
+            "line 12: W4 TooWideConstant",
+        ),
     ]
+}
+
+/// What is judged, as it is printed.
+fn shown(alloc: Global, judged: Result<Form, ReadFault>) -> Result<String, AllocError> {
+    match judged {
+        Ok(_) => String::from_str(alloc, "built"),
+        Err(ReadFault::Refused(judged)) => format!(in alloc; "{judged}"),
+        Err(ReadFault::NoMemory) => String::from_str(alloc, "want of memory"),
+    }
 }
 
 #[test]
 fn numbers_within_their_ranges(rt: HostRuntime) -> Result<(), Fail> {
-    let shelf = shelf_of(rt.alloc(), Box::new(rt.alloc(), LessAndSum)?)?;
+    let alloc = rt.alloc();
+    let shelf = shelf_of(alloc, Box::new(alloc, LessAndSum)?)?;
     for (numbers, form) in spellings_of_forms() {
-        let text = spelled(rt.alloc(), numbers)?;
-        assert_eq!(rt; judge(rt.alloc(), text.as_bytes(), &shelf), Ok(form));
+        let text = spelled(alloc, numbers)?;
+        assert_eq!(rt; judge(alloc, text.as_bytes(), &shelf), Ok(form));
     }
-    for (numbers, line) in spellings_of_none() {
-        let text = spelled(rt.alloc(), numbers)?;
-        let fault = ReadFault::Refused(Judged::NotBuilt { line });
-        assert_eq!(rt;
-            judge(rt.alloc(), text.as_bytes(), &shelf),
-            Err(fault),
-            "at {text}"
-        );
+    for (numbers, fault) in spellings_of_none() {
+        let text = spelled(alloc, numbers)?;
+        let judged = shown(alloc, judge(alloc, text.as_bytes(), &shelf))?;
+        assert_eq!(rt; judged.as_str(), fault, "at {text}");
     }
     Ok(())
 }
@@ -370,21 +382,21 @@ fn changes_that_stay_built() -> [(&'static str, &'static str); 3] {
     ]
 }
 
-/// Changes of the description in one place that stay without fault of form, with the first line that isn't due.
-fn changes_that_are_not_built() -> [(&'static str, &'static str, u32); 9] {
+/// Changes of the description in one place, with what is judged: faults of each phase, and the first line that isn't due.
+fn changes_that_are_not_built() -> [(&'static str, &'static str, &'static str); 9] {
     [
-        ("format F op:8", "format F op:9", 7),
-        ("format F op:8", "\nformat F op:7", 8),
-        ("unit U alu 8", "unit U alu 9", 6),
-        ("unit U alu 8", "unit U mul 8", 6),
-        ("const 8 250", "const 9 250", 12),
-        ("transfer 1 0", "transfer 1 00", 4),
-        ("instr I F", "instr J F", 10),
-        ("  1 a = R\n", "", 11),
+        ("format F op:8", "format F op:9", "line 7: W1 Range"),
+        ("format F op:8", "\nformat F op:7", "line 8: E1 FormatSum"),
+        ("unit U alu 8", "unit U alu 9", "line 13: W2 Differs"),
+        ("unit U alu 8", "unit U mul 8", "line 6: N3 NoKind"),
+        ("const 8 250", "const 9 250", "line 13: W2 Differs"),
+        ("transfer 1 0", "transfer 1 00", "line 4: F0 NotBuilt"),
+        ("instr I F", "instr J F", "line 10: F0 NotBuilt"),
+        ("  1 a = R\n", "", "line 12: N1 Unknown"),
         (
             "instr I F op=1\n  1 a = R\n  1 k = const 8 250\n  1 s = U.add a k\n  1 R <- s\nend\n",
             "",
-            0,
+            "line 0: F0 NotBuilt",
         ),
     ]
 }
@@ -401,15 +413,15 @@ fn lines_as_they_are_due(rt: HostRuntime) -> Result<(), Fail> {
     for (from, to) in changes_that_stay_built() {
         assert!(rt; judged_after(rt.alloc(), from, to)?.is_ok(), "at {to}");
     }
-    for (from, to, line) in changes_that_are_not_built() {
-        let fault = ReadFault::Refused(Judged::NotBuilt { line });
-        assert_eq!(rt; judged_after(rt.alloc(), from, to)?, Err(fault), "at {to}");
+    for (from, to, fault) in changes_that_are_not_built() {
+        let judged = shown(rt.alloc(), judged_after(rt.alloc(), from, to)?)?;
+        assert_eq!(rt; judged.as_str(), fault, "at {to}");
     }
     Ok(())
 }
 
-/// The line that is printed where the shelf lacks what the line `unit` at line 6 asks for.
-const NO_UNIT: &str = "description: line 6: F0 NotBuilt\n";
+/// The line that is printed where the shelf lacks the kind that the line `unit` at line 6 asks for.
+const NO_UNIT: &str = "description: line 6: N3 NoKind\n";
 
 #[test]
 fn shelves_without_the_unit(rt: HostRuntime) -> Result<(), Fail> {
@@ -422,23 +434,16 @@ fn shelves_without_the_unit(rt: HostRuntime) -> Result<(), Fail> {
             alloc,
             later.as_bytes(),
             &empty_shelf(alloc)?,
-            "description: line 7: F0 NotBuilt\n"
+            "description: line 7: N3 NoKind\n"
         )?
     );
     Ok(())
 }
 
 #[test]
-fn a_line_before_the_unit_comes_first(rt: HostRuntime) -> Result<(), Fail> {
+fn a_fault_comes_before_what_is_not_built(rt: HostRuntime) -> Result<(), Fail> {
     let alloc = rt.alloc();
     let text = accumulator().replace(alloc, "transfer 1 0", "transfer 1 00")?;
-    assert!(rt;
-        is_refused(
-            alloc,
-            text.as_bytes(),
-            &empty_shelf(alloc)?,
-            "description: line 4: F0 NotBuilt\n"
-        )?
-    );
+    assert!(rt; is_refused(alloc, text.as_bytes(), &empty_shelf(alloc)?, NO_UNIT)?);
     Ok(())
 }

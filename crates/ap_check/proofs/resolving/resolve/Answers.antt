@@ -1,87 +1,59 @@
-use Rattle.std.proofs.Common.{◌≡◌, ◌+◌, List, take, drop, sym, subst, arith}
+use Rattle.std.proofs.Common.{◌≡◌, List, sym, subst, ◌∙◌}
 use Rattle.std.proofs.lemmas.Result.{err_from_is_err_and}
-use Rattle.std.specs.Prelude.{IfErr, IfOk}
 use Rattle.ap_bits.specs.declared.card.Card.{Card}
-use Rattle.ap_desc.specs.Descriptions.{IsDescription}
+use Rattle.ap_desc.specs.Clean.{FitsCards}
 use Rattle.ap_desc.specs.DesignOf.{design_of}
-use Rattle.ap_desc.specs.Shelf.{IsOfCards}
+use Rattle.ap_desc.specs.Least.{HoldsNowhere}
+use Rattle.ap_desc.specs.Meaning.{MeetsPortFault, MeetsWordFault}
 use Rattle.ap_desc.specs.Sound.{IsSound}
-use Rattle.ap_desc.specs.declared.description.Numbered.{Numbered}
 use Rattle.ap_desc.specs.declared.design.Design.{Design}
 use Rattle.ap_unit.specs.Shelves.{cards_of}
-use Rattle.ap_check.specs.Known.{Knows}
-use Rattle.ap_check.specs.Resolved.{IsResolvable, IsResolveFault}
-use Rattle.ap_check.proofs.FewFields.{has_few_fields}
-use Rattle.ap_check.proofs.Finished.{all_known, end_design, end_faultless, end_holds, end_refused, parts_at, stopped_refused}
+use Rattle.ap_check.specs.Resolved.{IsPortFault}
+use Rattle.ap_check.proofs.Judged.{fits, lines_refused, meaningful, ports_refused, words_refused}
 use Rattle.ap_check.proofs.resolving.resolve.Goals as goal
 
-pub loop-n-init : goal.loop-n-init
-loop-n-init g c = c.new-environment.ensures (cards_of (λ x. (goal.UnitKind-dyn g x).card x.1) c.args.shelf.now) c.statements-n-items.result.now
-
-pub take-requires-clause-word : goal.take-requires-clause-word
-take-requires-clause-word g c = λ none. (c.loop-n.invariant.describes none).narrow
-
-pub take-requires-clause-few : goal.take-requires-clause-few
-take-requires-clause-few g c =
-    let items : List Numbered = c.statements-n-items.result.now in
-    let described : IsDescription items = subst IsDescription (sym c.statements-n-items.ensures) c.rules.ensures in
-    let parts = parts_at items c.loop-n.n-index c.n-item.result (omega arith) c.n-item.is in
-    has_few_fields items (take c.loop-n.n-index items) c.n-item.result (drop (c.loop-n.n-index + 1) items) described parts.1
-
-pub returns-in_err-take-clause-refused : goal.returns-in_err-take-clause-refused
-returns-in_err-take-clause-refused g c =
+pub judged_words-requires : goal.judged_words-requires
+judged_words-requires g c =
     let cards : List Card = cards_of (λ x. (goal.UnitKind-dyn g x).card x.1) c.args.shelf.now in
-    let items : List Numbered = c.statements-n-items.result.now in
-    let described : IsDescription items = subst IsDescription (sym c.statements-n-items.ensures) c.rules.ensures in
-    let parts = parts_at items c.loop-n.n-index c.n-item.result (omega arith) c.n-item.is in
-    let fault = c.in_err-take.ensures items (take c.loop-n.n-index items) (drop (c.loop-n.n-index + 1) items) described parts.1 c.loop-n.invariant in
+    subst IsSound (sym c.in_ok-design.ensures.design) (c.faultless_descriptions_are_sound.ensures.sound c.args.description.now cards c.rules.ensures c.in_ok-design.ensures.faultless)
+
+pub judged_ports-requires : goal.judged_ports-requires
+judged_ports-requires g c =
+    let cards : List Card = cards_of (λ x. (goal.UnitKind-dyn g x).card x.1) c.args.shelf.now in
+    subst IsSound (sym (c.in_ok-design-2.ensures.same ∙ c.in_ok-design.ensures.design)) (c.faultless_descriptions_are_sound.ensures.sound c.args.description.now cards c.rules.ensures c.in_ok-design.ensures.faultless)
+
+pub returns-in_err-design-clause-refused : goal.returns-in_err-design-clause-refused
+returns-in_err-design-clause-refused g c =
     let p = err_from_is_err_and c.from_residual.result c.from_residual.ensures.1 in
-    rw (p.1, p.2) (subst (λ (st : List Numbered). IsResolveFault st cards c.in_err-take.field-0.0) c.statements-n-items.ensures
-    (stopped_refused cards items (take c.loop-n.n-index items) c.n-item.result (drop (c.loop-n.n-index + 1) items) c.in_err-take.field-0.0 described parts.1 c.loop-n.invariant.clean fault))
+    rw (p.1, p.2) (lines_refused (cards_of (λ x. (goal.UnitKind-dyn g x).card x.1) c.args.shelf.now) c.args.description.now c.in_err-design.field-0.0 c.in_err-design.ensures.refused)
 
-pub loop-n-preserved : goal.loop-n-preserved
-loop-n-preserved g c =
-    let cards : List Card = cards_of (λ x. (goal.UnitKind-dyn g x).card x.1) c.args.shelf.now in
-    let items : List Numbered = c.statements-n-items.result.now in
-    let described : IsDescription items = subst IsDescription (sym c.statements-n-items.ensures) c.rules.ensures in
-    let parts = parts_at items c.loop-n.n-index c.n-item.result (omega arith) c.n-item.is in
-    subst (λ (b : List Numbered). Knows cards items b c.take.new.self) (sym parts.0)
-    (c.in_ok-take.ensures items (take c.loop-n.n-index items) (drop (c.loop-n.n-index + 1) items) described parts.1 c.loop-n.invariant)
+pub returns-in_err-design-2-clause-refused : goal.returns-in_err-design-2-clause-refused
+returns-in_err-design-2-clause-refused g c =
+    let p = err_from_is_err_and c.from_residual-in_err-design-2.result c.from_residual-in_err-design-2.ensures.1 in
+    rw (p.1, p.2)
+    (words_refused (cards_of (λ x. (goal.UnitKind-dyn g x).card x.1) c.args.shelf.now) c.args.description.now c.in_ok-design.design c.in_ok-design.ensures.design c.in_ok-design.ensures.faultless
+    c.in_err-design-2.field-0.0 c.in_err-design-2.ensures.refused)
+
+pub returns-in_err-design-3-clause-refused : goal.returns-in_err-design-3-clause-refused
+returns-in_err-design-3-clause-refused g c =
+    let p = err_from_is_err_and c.from_residual-in_err-design-3.result c.from_residual-in_err-design-3.ensures.1 in
+    rw (p.1, p.2)
+    (ports_refused (cards_of (λ x. (goal.UnitKind-dyn g x).card x.1) c.args.shelf.now) c.args.description.now c.in_ok-design.design c.in_ok-design.ensures.design c.in_ok-design.ensures.faultless c.in_ok-design-2.ensures.right
+    c.in_err-design-3.field-0.0 (subst (λ (d : Design). IsPortFault d c.in_err-design-3.field-0.0) c.in_ok-design-2.ensures.same c.in_err-design-3.ensures.refused))
 
 pub returns-clause-faultless : goal.returns-clause-faultless
 returns-clause-faultless g c =
     let cards : List Card = cards_of (λ x. (goal.UnitKind-dyn g x).card x.1) c.args.shelf.now in
-    let items : List Numbered = c.statements-n-items.result.now in
-    let knows = all_known cards items c.loop-n.n-index c.loop-n.environment (omega arith) c.loop-n.invariant in
-    subst (λ (st : List Numbered). IfOk c.finish.result (λ made. IsResolvable st cards)) c.statements-n-items.ensures (end_faultless cards items c.loop-n.environment knows c.finish.result c.finish.ensures.right)
+    let is : c.in_ok-design.design ≡ design_of c.args.description.now cards = c.in_ok-design.ensures.design in
+    let no_port : HoldsNowhere (MeetsPortFault c.in_ok-design.design) = subst (λ (d : Design). HoldsNowhere (MeetsPortFault d)) c.in_ok-design-2.ensures.same c.in_ok-design-3.ensures.right in
+    meaningful cards c.args.description.now c.in_ok-design.design is c.in_ok-design.ensures.faultless c.in_ok-design-2.ensures.right no_port
 
-pub returns-clause-design : goal.returns-clause-design
-returns-clause-design g c =
+pub returns-clause-fits : goal.returns-clause-fits
+returns-clause-fits g c =
     let cards : List Card = cards_of (λ x. (goal.UnitKind-dyn g x).card x.1) c.args.shelf.now in
-    let items : List Numbered = c.statements-n-items.result.now in
-    let knows = all_known cards items c.loop-n.n-index c.loop-n.environment (omega arith) c.loop-n.invariant in
-    subst (λ (st : List Numbered). IfOk c.finish.result (λ made. made ≡ design_of st cards)) c.statements-n-items.ensures
-    (end_design cards items c.loop-n.environment knows c.finish.result c.finish.ensures.right c.finish.ensures.design)
-
-pub returns-clause-sound : goal.returns-clause-sound
-returns-clause-sound g c =
-    let cards : List Card = cards_of (λ x. (goal.UnitKind-dyn g x).card x.1) c.args.shelf.now in
-    let items : List Numbered = c.statements-n-items.result.now in
-    let described : IsDescription items = subst IsDescription (sym c.statements-n-items.ensures) c.rules.ensures in
-    let knows = all_known cards items c.loop-n.n-index c.loop-n.environment (omega arith) c.loop-n.invariant in
-    end_holds cards items c.loop-n.environment knows IsSound (c.faultless_descriptions_are_sound.ensures.sound items cards described) c.finish.result c.finish.ensures.right c.finish.ensures.design
-
-pub returns-clause-of_cards : goal.returns-clause-of_cards
-returns-clause-of_cards g c =
-    let cards : List Card = cards_of (λ x. (goal.UnitKind-dyn g x).card x.1) c.args.shelf.now in
-    let items : List Numbered = c.statements-n-items.result.now in
-    let described : IsDescription items = subst IsDescription (sym c.statements-n-items.ensures) c.rules.ensures in
-    let knows = all_known cards items c.loop-n.n-index c.loop-n.environment (omega arith) c.loop-n.invariant in
-    end_holds cards items c.loop-n.environment knows (λ (design : Design). IsOfCards design cards) (c.faultless_descriptions_are_sound.ensures.of_cards items cards described) c.finish.result c.finish.ensures.right c.finish.ensures.design
-
-pub returns-clause-refused : goal.returns-clause-refused
-returns-clause-refused g c =
-    let cards : List Card = cards_of (λ x. (goal.UnitKind-dyn g x).card x.1) c.args.shelf.now in
-    let items : List Numbered = c.statements-n-items.result.now in
-    let knows = all_known cards items c.loop-n.n-index c.loop-n.environment (omega arith) c.loop-n.invariant in
-    subst (λ (st : List Numbered). IfErr c.finish.result (IsResolveFault st cards)) c.statements-n-items.ensures (end_refused cards items c.loop-n.environment knows c.finish.result c.finish.ensures.refused)
+    let is : c.in_ok-design.design ≡ design_of c.args.description.now cards = c.in_ok-design.ensures.design in
+    let no_port : HoldsNowhere (MeetsPortFault c.in_ok-design.design) = subst (λ (d : Design). HoldsNowhere (MeetsPortFault d)) c.in_ok-design-2.ensures.same c.in_ok-design-3.ensures.right in
+    let sound = c.faultless_descriptions_are_sound.ensures.sound c.args.description.now cards c.rules.ensures c.in_ok-design.ensures.faultless in
+    let of_cards = c.faultless_descriptions_are_sound.ensures.of_cards c.args.description.now cards c.rules.ensures c.in_ok-design.ensures.faultless in
+    subst (λ (d : Design). FitsCards d cards) (sym (c.in_ok-design-3.ensures.same ∙ c.in_ok-design-2.ensures.same))
+    (fits cards c.args.description.now c.in_ok-design.design is c.in_ok-design.ensures.faultless c.in_ok-design-2.ensures.right no_port sound of_cards)

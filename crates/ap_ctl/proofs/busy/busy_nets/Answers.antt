@@ -1,12 +1,10 @@
-use Rattle.std.proofs.Common.{◌≡◌, ◌<◌, ◌+◌, ◌-◌, ◌∷◌, [], ◌++◌, length, get_or, map, refl, sym, ap, subst, ◌∙◌, arith, ℕ, List, Some}
+use Rattle.std.proofs.Common.{◌≡◌, ◌<◌, ◌+◌, ◌++◌, length, get_or, refl, ap, ◌∙◌, arith, ℕ, List, Some}
 use Rattle.std.specs.Prelude.{◌&&◌, ◌||◌, slice_get}
-use Rattle.std.specs.List.{AllByRecursion as Each, list_any, range_with_len}
+use Rattle.std.specs.List.{list_any}
 use Rattle.std.proofs.lemmas.Option.{slice_get-get_or}
 use Rattle.ap_net.specs.declared.cell.Wire.{Wire}
-use Rattle.ap_net.specs.Pending.{Among}
 use Rattle.ap_ctl.specs.Building.{IsBit, is_on}
 use Rattle.ap_ctl.specs.Given.{IsWordNet, memory_nets, unit_nets}
-use Rattle.ap_ctl.specs.Meaning.{is_busy}
 use Rattle.ap_ctl.specs.Moves.{busy_numbers, stage_numbers}
 use Rattle.ap_ctl.specs.Nets.{AreDecoded}
 use Rattle.ap_ctl.proofs.Beside.{EachPair-at, EachPair-length, each_index, item_at, no_wire}

@@ -1,11 +1,11 @@
-use Rattle.std.proofs.Common.{◌≡◌, ◌∙◌, sym, ap, subst, List}
-use Rattle.std.specs.List.{AllByRecursion as Each, list_any}
+use Rattle.std.proofs.Common.{◌∙◌, ap}
+use Rattle.std.specs.List.{list_any}
 use Rattle.ap_model.specs.Stalls.{is_held_stage}
 use Rattle.ap_net.specs.declared.cell.Wire.{Wire}
 use Rattle.ap_net.specs.Runs.{bit}
 use Rattle.ap_net.specs.Ready.{numbers}
 use Rattle.ap_net.proofs.Laws.{meant}
-use Rattle.ap_ctl.specs.Building.{Gives, IsBit, is_on}
+use Rattle.ap_ctl.specs.Building.{is_on}
 use Rattle.ap_ctl.proofs.Built.{Each-map, Gives-joined, settled_builds}
 use Rattle.ap_ctl.proofs.busy.hold.Goals as goal
 

@@ -1,4 +1,4 @@
-use Rattle.std.proofs.Common.{◌≡◌, Bool, map, sym, ap, ◌∙◌, List}
+use Rattle.std.proofs.Common.{Bool, map, ap, ◌∙◌, List}
 use Rattle.std.specs.Prelude.{filter, zip}
 use Rattle.ap_net.specs.declared.cell.Wire.{Wire}
 use Rattle.ap_ctl.specs.Given.{has_memory_line_in, net_of}

@@ -1,4 +1,4 @@
-use Rattle.std.proofs.Common.{◌≡◌, ◌∷◌, [], ◌++◌, ℕ, List, length, refl, sym, ap, subst, ◌∙◌, arith}
+use Rattle.std.proofs.Common.{◌≡◌, ◌∷◌, ℕ, List, length, sym, ap, subst, ◌∙◌}
 use Rattle.std.specs.Prelude.{◌&&◌, ◌||◌}
 use Rattle.std.specs.List.{AllByRecursion as Each, list_any}
 use Rattle.std.proofs.lemmas.Bool.{eqb-true}
@@ -9,7 +9,7 @@ use Rattle.ap_ctl.specs.Building.{GivesEach, IsBit, is_on}
 use Rattle.ap_ctl.specs.Given.{memory_nets, unit_nets}
 use Rattle.ap_ctl.specs.Moves.{stage_numbers}
 use Rattle.ap_ctl.proofs.Bits.{IsBit-Tells, on_of}
-use Rattle.ap_ctl.proofs.Built.{Builds-refl, EachBit-Builds, Gives-fewer, GivesEach-push, from_these, push_each}
+use Rattle.ap_ctl.proofs.Built.{EachBit-Builds, GivesEach-push, from_these, push_each}
 use Rattle.ap_ctl.proofs.Chosen.{chosen_each}
 use Rattle.ap_ctl.proofs.Stages.{more_waits, none_waits, stage_nothing, stage_readers}
 use Rattle.ap_ctl.proofs.Within.{units_within}

@@ -1,8 +1,6 @@
-use Rattle.std.proofs.Common.{◌≡◌, ◌∷◌, [], refl, inl, inr, ◌∙◌, ℕ, List, ap}
-use Rattle.std.specs.List.{AllByRecursion as Each, list_any}
+use Rattle.std.proofs.Common.{◌∷◌, [], refl, inl, inr, ℕ, List}
 use Rattle.ap_net.specs.Ready.{numbers}
 use Rattle.ap_net.specs.Pending.{Among}
-use Rattle.ap_ctl.specs.Building.{is_on}
 use Rattle.ap_ctl.proofs.Bits.{IsBit-Tells, joined_all, on_of, told}
 use Rattle.ap_ctl.proofs.Built.{EachBit-Builds, Each-weaker, IsBit-Builds, Tells-Builds, among_all, pair_gives}
 use Rattle.ap_ctl.proofs.busy.waits.Goals as goal

@@ -1,18 +1,14 @@
-use Rattle.std.proofs.Common.{◌≡◌, ◌<◌, ◌+◌, ◌-◌, ◌∷◌, [], ◌++◌, ℕ, List, length, flat_map, refl, sym, ap, subst, ◌∙◌, arith, inl, inr}
-use Rattle.std.specs.Prelude.{nat_le}
-use Rattle.std.specs.List.{AllByRecursion as Each}
+use Rattle.std.proofs.Common.{◌∷◌, [], ◌++◌, ℕ, List, sym, subst, arith}
 use Rattle.ap_net.specs.declared.cell.Wire.{Wire}
 use Rattle.ap_net.specs.Draft.{Draft}
-use Rattle.ap_net.specs.Pending.{IsFrom}
-use Rattle.ap_net.specs.Ready.{Dependence, ReadyAfter, numbers}
+use Rattle.ap_net.specs.Ready.{ReadyAfter, numbers}
 use Rattle.ap_net.proofs.Laws.{Carries-Extends, Extends-trans, ReadyAfter-Extends}
 use Rattle.ap_ctl.specs.declared.move_on.Gates.{Gates}
 use Rattle.ap_ctl.specs.Building.{Gives, GivesEach, IsBit, Tells}
-use Rattle.ap_ctl.specs.Given.{IsWordNet, holding, killing}
-use Rattle.ap_ctl.specs.Lists.{EachFrom, EachPair}
-use Rattle.ap_ctl.specs.Moves.{busy_numbers, fire_of, next_numbers, next_of}
+use Rattle.ap_ctl.specs.Given.{holding}
+use Rattle.ap_ctl.specs.Moves.{busy_numbers, fire_of}
 use Rattle.ap_ctl.specs.Meaning.{is_held}
-use Rattle.ap_ctl.specs.Nets.{AreDecoded, FollowsWord, Shows}
+use Rattle.ap_ctl.specs.Nets.{Shows}
 use Rattle.ap_ctl.proofs.Beside.{EachFrom-second, EachFrom-weaker}
 use Rattle.ap_ctl.proofs.Bits.{IsBit-Carries, IsBit-Tells}
 use Rattle.ap_ctl.proofs.Built.{EachBit-Builds, IsBit-Builds, IsGiven-Builds, Tells-Builds, ready_from}

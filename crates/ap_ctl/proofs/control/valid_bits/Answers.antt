@@ -1,12 +1,9 @@
-use Rattle.std.proofs.Common.{◌≡◌, ◌<◌, ◌≤◌, ◌+◌, ◌∷◌, [], ◌++◌, length, refl, sym, ap, subst, ◌∙◌, arith, append-nil, ℕ}
-use Rattle.ap_net.specs.declared.cell.Wire.{Wire}
-use Rattle.ap_net.specs.declared.net.ModuleNet.{ModuleNet}
+use Rattle.std.proofs.Common.{◌≡◌, ◌<◌, ◌+◌, ◌∷◌, [], ◌++◌, length, refl, sym, ap, subst, ◌∙◌, arith}
 use Rattle.ap_net.specs.declared.net.Role.TheVariants as role
-use Rattle.ap_net.specs.Draft.{Draft, CanFresh, names_of, next_wire, with_net}
+use Rattle.ap_net.specs.Draft.{Draft, names_of, next_wire, with_net}
 use Rattle.ap_net.specs.Modules.{ports_among}
 use Rattle.ap_net.specs.Names.{IsNetName, IsNew, IsNotNumbered}
 use Rattle.ap_signals.specs.NetRuns.{valid_name}
-use Rattle.ap_ctl.specs.Nets.{valid_wires, with_valid}
 use Rattle.ap_ctl.proofs.ValidBits.{name_stays, names_stay, ports_register, valid_count, valid_is_name, valid_more, valid_none, valid_not_numbered, wires_more}
 use Rattle.ap_ctl.proofs.control.valid_bits.Goals as goal
 

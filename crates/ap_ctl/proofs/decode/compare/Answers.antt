@@ -1,8 +1,7 @@
-use Rattle.std.proofs.Common.{◌+◌, ◌-◌, ◌∷◌, [], refl, sym, subst, ◌∙◌, inl, ℕ}
+use Rattle.std.proofs.Common.{◌+◌, ◌-◌, ◌∷◌, [], refl, sym, subst, ◌∙◌, inl}
 use Rattle.std.specs.Prelude.{Contains}
 use Rattle.ap_net.specs.declared.cell.Wire.{Wire}
 use Rattle.ap_net.specs.declared.cell.Cell.TheVariants as cell
-use Rattle.ap_net.specs.declared.cell.TwoOp.TheVariants as op
 use Rattle.ap_net.proofs.Laws.{Carries-Makes, meant}
 use Rattle.ap_ctl.proofs.Bits.{tested}
 use Rattle.ap_ctl.proofs.Built.{Gives-compared, Gives-made, made_later, made_there, pair_gives}

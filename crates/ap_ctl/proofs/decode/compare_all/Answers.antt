@@ -1,8 +1,5 @@
-use Rattle.std.proofs.Common.{◌≡◌, ◌<◌, ◌∷◌, [], ◌++◌, length, get_or, map, take, refl, sym, ap, subst, ◌∙◌, inl, arith, List}
-use Rattle.std.specs.List.{AllByRecursion as Each}
+use Rattle.std.proofs.Common.{◌<◌, ◌∷◌, [], ◌++◌, length, get_or, map, take, refl, sym, ap, subst, ◌∙◌, inl, arith}
 use Rattle.std.proofs.lemmas.List.{map-append, take_all, take_more}
-use Rattle.ap_net.specs.declared.cell.Wire.{Wire}
-use Rattle.ap_net.specs.Pending.{IsFrom}
 use Rattle.ap_net.proofs.Laws.{IsNet-Reads}
 use Rattle.ap_ctl.specs.declared.decode.Compared.{Compared}
 use Rattle.ap_ctl.specs.Building.{GivesEachComparing}

@@ -1,11 +1,11 @@
-use Rattle.std.proofs.Common.{◌≡◌, ◌∷◌, [], map, sym, subst, ◌∙◌, ap, List}
+use Rattle.std.proofs.Common.{map, sym, subst, ◌∙◌, ap, List}
 use Rattle.std.specs.Prelude.{filter}
 use Rattle.std.specs.List.{AllByRecursion as Each, list_all}
 use Rattle.ap_net.specs.declared.cell.Wire.{Wire}
 use Rattle.ap_net.specs.Ready.{numbers}
 use Rattle.ap_net.specs.Pending.{Among}
 use Rattle.ap_ctl.specs.declared.decode.Compared.{Compared}
-use Rattle.ap_ctl.specs.Building.{Gives, IsBit, is_on}
+use Rattle.ap_ctl.specs.Building.{IsBit, is_on}
 use Rattle.ap_ctl.specs.Decoding.{IsCompared, compared_net, is_wanted}
 use Rattle.ap_ctl.proofs.Bits.{told}
 use Rattle.ap_ctl.proofs.Built.{Gives-fewer}

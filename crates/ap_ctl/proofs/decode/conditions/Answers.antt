@@ -1,4 +1,4 @@
-use Rattle.std.proofs.Common.{◌≡◌, ◌<◌, ◌+◌, ◌∷◌, [], ◌++◌, length, map, take, refl, sym, ap, subst, ◌∙◌, inl, arith, List}
+use Rattle.std.proofs.Common.{◌≡◌, ◌∷◌, [], ◌++◌, length, map, take, sym, ap, subst, ◌∙◌, arith, List}
 use Rattle.std.specs.List.{AllByRecursion as Each}
 use Rattle.std.proofs.lemmas.List.{take_all}
 use Rattle.ap_desc.specs.declared.design.Instr.{Instr}
@@ -8,9 +8,8 @@ use Rattle.ap_net.specs.Pending.{IsFrom}
 use Rattle.ap_net.specs.Ready.{numbers}
 use Rattle.ap_ctl.specs.declared.decode.Compared.{Compared}
 use Rattle.ap_ctl.specs.Building.{BuildsComparing, Tells}
-use Rattle.ap_ctl.specs.Decoding.{IsCompared, compared_net, passes, with_tests}
+use Rattle.ap_ctl.specs.Decoding.{IsCompared, compared_net, with_tests}
 use Rattle.ap_ctl.specs.Lists.{EachPair}
-use Rattle.ap_ctl.specs.Nets.{AreDecoded}
 use Rattle.ap_ctl.proofs.Beside.{EachPair-push, EachPair-weaker, item_at, take_item}
 use Rattle.ap_ctl.proofs.Bits.{told}
 use Rattle.ap_ctl.proofs.Built.{Each-map, GivesEach-push, Tells-Builds, from_more}

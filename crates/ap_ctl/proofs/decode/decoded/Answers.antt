@@ -1,9 +1,9 @@
-use Rattle.std.proofs.Common.{flat_map, ◌≡◌, ◌<◌, ◌+◌, ◌∷◌, [], ◌++◌, length, get_or, take, refl, sym, ap, subst, ◌∙◌, inl, arith, List}
+use Rattle.std.proofs.Common.{flat_map, ◌<◌, ◌∷◌, [], length, get_or, take, sym, ap, subst, ◌∙◌, inl, arith, List}
 use Rattle.std.specs.List.{AllByRecursion as Each}
 use Rattle.std.proofs.lemmas.List.{take_all, take_more}
 use Rattle.std.proofs.lemmas.Grind.{flat_map-append}
 use Rattle.ap_net.specs.declared.cell.Wire.{Wire}
-use Rattle.ap_net.specs.Pending.{Among, IsFrom}
+use Rattle.ap_net.specs.Pending.{IsFrom}
 use Rattle.ap_net.specs.Ready.{numbers}
 use Rattle.ap_net.proofs.Laws.{among_index}
 use Rattle.ap_ctl.specs.Building.{BuildsComparing}

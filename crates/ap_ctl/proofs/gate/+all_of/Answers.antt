@@ -1,12 +1,11 @@
-use Rattle.std.proofs.Common.{◌≡◌, ◌<◌, ℕ, ◌-◌, ◌/◌, length, take, drop, ap, sym, ◌∙◌, arith, rules, refl, List, ◌∷◌, []}
-use Rattle.std.specs.List.{AllByRecursion as Each, list_all}
+use Rattle.std.proofs.Common.{◌-◌, ◌/◌, length, take, drop, ◌∙◌, arith, rules, refl, List, []}
 use Rattle.ap_net.specs.declared.cell.Cell.TheVariants as cell
 use Rattle.ap_net.specs.declared.cell.Wire.{Wire}
 use Rattle.ap_net.specs.Pending.{Among}
 use Rattle.ap_net.specs.Ready.{numbers}
 use Rattle.ap_ctl.specs.Building.{IsBit, is_on}
 use Rattle.ap_ctl.proofs.Beside.{no_wire}
-use Rattle.ap_ctl.proofs.Bits.{IsBit-Tells, Each-drop, Each-take, none_all, on_of, one_all, told, all_halves, joined_all}
+use Rattle.ap_ctl.proofs.Bits.{IsBit-Tells, Each-drop, Each-take, on_of, one_all, told, all_halves, joined_all}
 use Rattle.ap_ctl.proofs.Built.{IsBit-Builds, EachBit-Builds, Gives-fewer, Gives-made, Tells-Builds, among_nets, among_some, one_gives, pair_gives}
 use Rattle.ap_ctl.proofs.gate.+all_of.Goals as goal
 

@@ -1,6 +1,5 @@
-use Rattle.std.proofs.Common.{refl, sym, ◌∙◌}
+use Rattle.std.proofs.Common.{refl}
 use Rattle.ap_net.specs.declared.cell.Cell.TheVariants as cell
-use Rattle.ap_net.specs.declared.cell.TwoOp.TheVariants as op
 use Rattle.ap_ctl.proofs.Bits.{choice_tells}
 use Rattle.ap_ctl.proofs.Built.{Gives-made}
 use Rattle.ap_ctl.proofs.gate.chosen.Goals as goal

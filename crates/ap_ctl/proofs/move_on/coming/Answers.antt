@@ -1,4 +1,4 @@
-use Rattle.std.proofs.Common.{◌≡◌, ◌<◌, ◌-◌, ◌∷◌, suc, zero, length, get_or, sym, ap, ◌∙◌, arith, ℕ, List}
+use Rattle.std.proofs.Common.{◌≡◌, ◌<◌, ◌-◌, ◌∷◌, suc, length, get_or, sym, ap, ◌∙◌, arith, List}
 use Rattle.std.specs.Prelude.{Contains}
 use Rattle.ap_net.specs.declared.cell.Wire.{Wire}
 use Rattle.ap_ctl.specs.Building.{is_on}

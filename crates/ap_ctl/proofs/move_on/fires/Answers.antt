@@ -1,12 +1,9 @@
-use Rattle.std.proofs.Common.{◌≡◌, ◌<◌, ◌+◌, ◌-◌, ◌∷◌, [], ◌++◌, ℕ, List, length, get_or, refl, sym, ap, subst, ◌∙◌, arith, inl, inr, length-append}
-use Rattle.std.specs.Prelude.{◌&&◌}
-use Rattle.std.specs.List.{AllByRecursion as Each}
+use Rattle.std.proofs.Common.{◌≡◌, ◌<◌, ◌+◌, ◌-◌, ◌∷◌, [], ℕ, List, length, get_or, refl, sym, ap, ◌∙◌, arith, inl, inr, length-append}
 use Rattle.ap_net.specs.declared.cell.Wire.{Wire}
 use Rattle.ap_net.specs.Pending.{Among}
 use Rattle.ap_net.specs.Ready.{numbers}
 use Rattle.ap_net.proofs.Laws.{among_index}
 use Rattle.ap_ctl.specs.Building.{IsBit, Tells, is_on}
-use Rattle.ap_ctl.specs.Lists.{EachFrom}
 use Rattle.ap_ctl.specs.Moves.{fire_of, is_on_at, open_gate}
 use Rattle.ap_ctl.proofs.Beside.{EachFrom-push, EachFrom-weaker, each_index, no_wire}
 use Rattle.ap_ctl.proofs.Bits.{joined_all, told}

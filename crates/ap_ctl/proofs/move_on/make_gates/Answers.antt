@@ -1,11 +1,10 @@
-use Rattle.std.proofs.Common.{◌≡◌, ◌∷◌, [], refl, inl, inr, ◌∙◌, ℕ, List, ap}
+use Rattle.std.proofs.Common.{◌∷◌, [], refl, inl, inr, ◌∙◌, ℕ, List, ap}
 use Rattle.std.specs.Prelude.{◌&&◌, not}
-use Rattle.ap_net.specs.declared.cell.Wire.{Wire}
 use Rattle.ap_net.specs.Pending.{IsFrom}
 use Rattle.ap_net.proofs.Laws.{IsFrom-more}
 use Rattle.ap_ctl.specs.Building.{is_on}
 use Rattle.ap_ctl.proofs.Bits.{IsBit-Tells, joined_all, on_of, told}
-use Rattle.ap_ctl.proofs.Built.{Builds-refl, Gives-joined, IsBit-Builds, Tells-Builds, from_all}
+use Rattle.ap_ctl.proofs.Built.{Builds-refl, Gives-joined, IsBit-Builds, Tells-Builds}
 use Rattle.ap_ctl.proofs.move_on.make_gates.Goals as goal
 
 pub both-requires : goal.both-requires

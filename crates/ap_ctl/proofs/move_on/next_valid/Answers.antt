@@ -1,10 +1,8 @@
-use Rattle.std.proofs.Common.{◌≡◌, ◌<◌, ◌≤◌, ◌+◌, ◌-◌, ◌∷◌, [], ◌++◌, ℕ, List, length, get_or, refl, sym, ap, subst, ◌∙◌, arith, inl, inr, length-append}
+use Rattle.std.proofs.Common.{◌≡◌, ◌<◌, ◌+◌, ◌-◌, ◌∷◌, [], ℕ, List, length, get_or, refl, sym, ap, ◌∙◌, arith, inl, length-append}
 use Rattle.std.specs.Prelude.{if◌then◌else◌}
-use Rattle.std.specs.List.{AllByRecursion as Each}
 use Rattle.ap_net.specs.declared.cell.Wire.{Wire}
 use Rattle.ap_net.specs.Pending.{Among}
 use Rattle.ap_ctl.specs.Building.{IsBit, Tells, is_on}
-use Rattle.ap_ctl.specs.Lists.{EachFrom}
 use Rattle.ap_ctl.specs.Moves.{coming_of, is_on_at, next_numbers, next_of}
 use Rattle.ap_ctl.proofs.Beside.{EachFrom-push, EachFrom-weaker, each_index, no_wire}
 use Rattle.ap_ctl.proofs.Bits.{told}

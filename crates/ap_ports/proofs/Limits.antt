@@ -3,12 +3,12 @@ use Rattle.std.proofs.Common.{◌≡◌, ℕ, ◌≤◌, length, Some}
 use Rattle.std.specs.Prelude.{nat_le, slice_get}
 use Rattle.std.specs.List.{list_all}
 use Rattle.std.proofs.lemmas.Bool.{and_parts, leb-true}
-use Rattle.ap_desc.proofs.Apart.{passes_at}
 use Rattle.ap_desc.specs.Designs.{is_instr_within, is_stage}
 use Rattle.ap_desc.specs.Sound.{IsSound}
 use Rattle.ap_desc.specs.declared.design.Design.{Design}
 use Rattle.ap_desc.specs.declared.design.Instr.{Instr}
 use Rattle.ap_desc.specs.declared.design.Micro.{Micro}
+use Rattle.ap_ports.proofs.Members.{passes_at}
 
 pub few_instrs : (design : Design) → IsSound design → length design.instrs ≤ 256
 few_instrs design sound = leb-true (length design.instrs) 256 (and_parts (nat_le (length design.instrs) 256) (list_all (is_instr_within design.stages) design.instrs) sound.within.instrs).0

@@ -1,7 +1,7 @@
 use Rattle.std.proofs.Common.{take}
 use Rattle.ap_check.specs.Known.{Knows}
 use Rattle.ap_unit.specs.Shelves.{cards_of}
-use Rattle.ap_check.proofs.resolving.resolve.Given as goal
+use Rattle.ap_check.proofs.resolving.described.Given as goal
 
 -- the environment knows the statements so far
 abbrev pub invariant-loop-n : goal.invariant-loop-n

@@ -1,0 +1,9 @@
+pub mod Kinds
+pub mod Pieces
+pub mod LineTexts
+pub mod LineForms
+pub mod Answers
+pub mod TextLines
+pub mod Places
+pub mod Named
+pub mod Reading
