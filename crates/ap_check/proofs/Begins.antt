@@ -1,6 +1,6 @@
 -- Where an instruction begins, the draft has the instruction of its block.
-use Rattle.std.proofs.Common.{◌≡◌, ℕ, ◌≤◌, cond, Bool, true, false, List, [], ◌∷◌, ◌++◌, map, min, Option, Some, None, Ok, Err, refl, sym, ap, subst, ◌∙◌, arith, sum_by}
-use Rattle.std.specs.Prelude.{slice_get, Result, MatchResult, zip}
+use Rattle.std.proofs.Common.{◌≡◌, ℕ, ◌≤◌, cond, Bool, true, false, List, [], ◌∷◌, ◌++◌, map, min, Some, Ok, Err, refl, sym, ap, subst, ◌∙◌, sum_by}
+use Rattle.std.specs.Prelude.{slice_get, Result, zip}
 use Rattle.std.specs.List.{AllByRecursion as Each}
 use Rattle.std.specs.Option.{option_map_or}
 use Rattle.std.specs.Str.{bytes_eq}
@@ -14,13 +14,12 @@ use Rattle.ap_desc.specs.declared.statement.FieldNumber.{FieldNumber}
 use Rattle.ap_desc.specs.declared.statement.Statement.{Statement}
 use Rattle.ap_desc.specs.declared.statement.Statement.TheVariants as s
 use Rattle.ap_desc.specs.Declarations.{all_said_at, declarations, fields_said, format_said}
-use Rattle.ap_desc.specs.Designs.{ArePlaced, mask_bits, value_bits}
+use Rattle.ap_desc.specs.Designs.{ArePlaced, mask_bits}
 use Rattle.ap_desc.specs.Instructions.{Block, blocks_of, fixed_of, instr_of}
 use Rattle.ap_desc.specs.Parts.{fields_named, format_names, named, place_of}
-use Rattle.ap_desc.specs.Scope.{scope_after}
 use Rattle.ap_desc.specs.Spelling.{field_names}
 use Rattle.ap_check.specs.Added.{IsInstrAdded}
-use Rattle.ap_check.specs.Drafts.{fields_at, width_fault, with_instr}
+use Rattle.ap_check.specs.Drafts.{fields_at}
 use Rattle.ap_check.specs.FixedBits.{mask_of, value_of}
 use Rattle.ap_check.specs.Known.{Describes, IsSplit}
 use Rattle.ap_check.specs.Uses.{IsStoppedBy}

@@ -1,25 +1,23 @@
 -- A draft that describes statements has the fields, locals and widths of their scope; and one more line is the line of its block.
-use Rattle.std.proofs.Common.{◌≡◌, ℕ, ◌<◌, Bool, true, false, List, [], ◌∷◌, ◌++◌, map, Option, Some, None, option_map, refl, sym, ap, subst, ◌∙◌, append_assoc, append-nil}
-use Rattle.std.specs.Prelude.{option_to_list, reverse, slice_get}
+use Rattle.std.proofs.Common.{◌≡◌, List, [], ◌∷◌, ◌++◌, map, Option, Some, None, option_map, refl, sym, ap, ◌∙◌, append_assoc, append-nil}
+use Rattle.std.specs.Prelude.{option_to_list, reverse}
 use Rattle.std.specs.Option.{option_map_or}
 use Rattle.std.proofs.lemmas.List.{map-append, reverse-append}
 use Rattle.std.proofs.lemmas.List.Sums.{fold_push}
 use Rattle.ap_bits.specs.declared.card.Card.{Card}
 use Rattle.ap_desc.specs.declared.description.Numbered.{Numbered}
 use Rattle.ap_desc.specs.declared.design.Act.{Act}
-use Rattle.ap_desc.specs.declared.design.Arg.{Arg}
 use Rattle.ap_desc.specs.declared.design.Design.{Design}
 use Rattle.ap_desc.specs.declared.design.Field.{Field}
 use Rattle.ap_desc.specs.declared.design.Format.{Format}
 use Rattle.ap_desc.specs.declared.design.Instr.{Instr}
 use Rattle.ap_desc.specs.declared.design.Micro.{Micro}
-use Rattle.ap_desc.specs.Designs.{arg_width, fields_of, local_width, widths_of}
+use Rattle.ap_desc.specs.Designs.{fields_of, local_width, widths_of}
 use Rattle.ap_desc.specs.Instructions.{Block, act_of, arg_of, each_after, instr_of, local_names, micro_of, micros_of, stage_of}
 use Rattle.ap_desc.specs.Parts.{fields_named}
 use Rattle.ap_desc.specs.Scope.{open_fields, open_lines}
-use Rattle.ap_check.specs.Drafts.{draft_fields, draft_widths, instr_with, width_in}
+use Rattle.ap_check.specs.Drafts.{instr_with}
 use Rattle.ap_check.specs.Known.{IsSplit}
-use Rattle.ap_check.specs.declared.draft.Draft.{Draft}
 use Rattle.ap_check.proofs.NameLists.{at_place}
 
 -- what the lines of an instruction give, line after line

@@ -1,5 +1,5 @@
 -- What is known after all statements.
-use Rattle.std.proofs.Common.{◌≡◌, ℕ, ◌+◌, ◌<◌, ◌≤◌, List, [], ◌∷◌, ◌++◌, length, take, drop, get_or, map, Option, Some, None, Ok, Err, refl, sym, ap, subst, ◌∙◌, append_assoc}
+use Rattle.std.proofs.Common.{◌≡◌, ℕ, ◌+◌, ◌<◌, ◌≤◌, List, [], ◌∷◌, ◌++◌, length, take, drop, get_or, map, Some, None, Ok, Err, refl, sym, ap, subst, ◌∙◌, append_assoc}
 use Rattle.std.specs.Prelude.{IfErr, IfOk, OnOk, Result, reverse}
 use Rattle.std.proofs.lemmas.List.{take-append-drop, take_all, take_more}
 use Rattle.ap_bits.specs.declared.card.Card.{Card}
@@ -15,7 +15,7 @@ use Rattle.ap_desc.specs.Instructions.{blocks_of, instr_of}
 use Rattle.ap_desc.specs.Least.{HoldsNowhere, IsLeast}
 use Rattle.ap_desc.specs.StatementFaults.{HasStatementFault}
 use Rattle.ap_check.specs.Drafts.{completed}
-use Rattle.ap_check.specs.Known.{Describes, HasFaultOf, IsNameFault, IsNoted, Knows}
+use Rattle.ap_check.specs.Known.{HasFaultOf, IsNameFault, IsNoted, Knows}
 use Rattle.ap_check.specs.Resolved.{IsResolvable, IsLineFault}
 use Rattle.ap_check.specs.declared.environment.Environment.{Environment}
 use Rattle.ap_check.proofs.DraftLines.{instrs_completed}

@@ -1,6 +1,5 @@
 -- Which fault is the first one.
-use Rattle.std.proofs.Common.{◌≡◌, Bool, true, false, not, ◌&&◌, ◌||◌, Option, Some, None, refl}
-use Rattle.ap_desc.specs.declared.fault.Fault.{Fault}
+use Rattle.std.proofs.Common.{◌≡◌, Bool, true, false, not, ◌&&◌, ◌||◌, Some, None, refl}
 use Rattle.ap_desc.specs.declared.fault.Fault.TheVariants as f
 use Rattle.ap_check.specs.Drafts.{first_width_fault}
 use Rattle.ap_check.specs.Tables.{first_name_fault}

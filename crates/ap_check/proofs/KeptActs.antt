@@ -1,5 +1,5 @@
 -- Where a line has no fault of widths, its numbers have 32 bits.
-use Rattle.std.proofs.Common.{◌≡◌, ℕ, ◌+◌, ◌-◌, ◌<◌, ◌≤◌, nat_lt, nat_le, Bool, true, false, not, ◌||◌, List, Option, Some, None, refl, sym, ap, subst, ◌∙◌, arith, leb-true, ltb-false, ltb-true}
+use Rattle.std.proofs.Common.{◌≡◌, ℕ, ◌-◌, ◌<◌, ◌≤◌, nat_lt, Bool, true, false, not, ◌||◌, List, Option, Some, None, refl, sym, ap, subst, ◌∙◌, arith, ltb-false, ltb-true}
 use Rattle.std.specs.Prelude.{slice_get}
 use Rattle.std.specs.Option.{option_map_or}
 use Rattle.std.proofs.lemmas.Bool.{not-false, or_parts}
@@ -10,10 +10,8 @@ use Rattle.ap_desc.specs.declared.design.Act.TheVariants as act
 use Rattle.ap_desc.specs.declared.design.Arg.{Arg}
 use Rattle.ap_desc.specs.declared.design.Design.{Design}
 use Rattle.ap_desc.specs.declared.design.File.{File}
-use Rattle.ap_desc.specs.declared.fault.Fault.{Fault}
 use Rattle.ap_desc.specs.declared.statement.Statement.{Statement}
 use Rattle.ap_desc.specs.declared.statement.Statement.TheVariants as s
-use Rattle.ap_desc.specs.declared.statement.Word.{Word}
 use Rattle.ap_desc.specs.Designs.{is_stage, is_width, width_at}
 use Rattle.ap_desc.specs.Instructions.{act_of, arg_of}
 use Rattle.ap_desc.specs.NameFaults as n

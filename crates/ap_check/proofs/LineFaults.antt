@@ -1,5 +1,5 @@
 -- The faults of widths of a line are those of what it does, also with its numbers in 32 bits.
-use Rattle.std.proofs.Common.{◌≡◌, ℕ, ◌<◌, ◌≤◌, ◌^◌, Bool, true, false, not, ◌&&◌, ◌||◌, nat_le, nat_lt, List, [], Option, Some, None, option_map, is_some, refl, sym, ap, subst, ◌∙◌, arith}
+use Rattle.std.proofs.Common.{◌≡◌, ℕ, ◌<◌, Bool, true, false, not, ◌||◌, nat_lt, List, Option, Some, None, option_map, is_some, refl, sym, ap, ◌∙◌, arith}
 use Rattle.std.specs.Prelude.{IsTrue, slice_get, option_and_then, if◌then◌else◌}
 use Rattle.std.specs.List.{list_all}
 use Rattle.std.specs.Option.{option_map_or}
@@ -18,19 +18,18 @@ use Rattle.ap_desc.specs.declared.statement.Statement.{Statement}
 use Rattle.ap_desc.specs.declared.statement.Statement.TheVariants as s
 use Rattle.ap_desc.specs.declared.statement.Word.{Word}
 use Rattle.ap_desc.specs.declared.statement.Word.TheVariants.{Pc, Link, Named}
-use Rattle.ap_desc.specs.Designs.{has_bits, is_stage, is_width}
+use Rattle.ap_desc.specs.Designs.{is_stage, is_width}
 use Rattle.ap_desc.specs.Instructions as i
 use Rattle.ap_desc.specs.Instructions.{act_of, arg_of, stage_of}
 use Rattle.ap_desc.specs.Order.{is_micro}
-use Rattle.ap_desc.specs.Parts.{names_of_fields, place_of, unit_named, unit_names}
+use Rattle.ap_desc.specs.Parts.{place_of, unit_named, unit_names}
 use Rattle.ap_desc.specs.Reserved.{is_among}
 use Rattle.ap_desc.specs.Scope.{Scope}
 use Rattle.ap_desc.specs.WidthFaults as widths
-use Rattle.ap_desc.specs.Widths as w
 use Rattle.ap_check.specs.Drafts.{AreNarrow, first_width_fault, line_fault, width_fault}
 use Rattle.ap_check.specs.Known.{IsOpen, has_kind, operations_of, tables_of}
 use Rattle.ap_check.specs.Numbers.{narrowed, narrowed_act}
-use Rattle.ap_check.specs.Tables.{arg_in, line_act, open_fields, operation_place}
+use Rattle.ap_check.specs.Tables.{arg_in, line_act, operation_place}
 use Rattle.ap_check.specs.declared.declared.Declared.{Declared}
 use Rattle.ap_check.proofs.NameLists.{named_all}
 use Rattle.ap_check.proofs.TableFaults.{fields_same, got_named}

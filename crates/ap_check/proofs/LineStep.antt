@@ -1,6 +1,6 @@
 -- What one more line of an instruction adds to a draft that describes the statements before it.
-use Rattle.std.proofs.Common.{◌≡◌, ℕ, ◌+◌, ◌-◌, ◌<◌, ◌≤◌, min, Bool, true, false, not, ◌||◌, nat_le, nat_lt, List, [], ◌∷◌, ◌++◌, Option, Some, None, option_map, Ok, Err, refl, sym, ap, subst, ◌∙◌, arith, leb-true}
-use Rattle.std.specs.Prelude.{if◌then◌else◌, option_to_list, Result, MatchResult}
+use Rattle.std.proofs.Common.{◌≡◌, ℕ, ◌+◌, ◌-◌, ◌<◌, ◌≤◌, true, not, nat_le, List, [], ◌∷◌, ◌++◌, Option, Some, None, option_map, Ok, Err, refl, sym, ap, subst, ◌∙◌, arith, leb-true}
+use Rattle.std.specs.Prelude.{if◌then◌else◌, Result, MatchResult}
 use Rattle.std.specs.Option.{option_map_or}
 use Rattle.std.proofs.lemmas.Bool.{not-false, or_parts}
 use Rattle.ap_bits.specs.declared.card.Card.{Card}
@@ -17,10 +17,8 @@ use Rattle.ap_desc.specs.Designs.{arg_width, local_width, widths_of}
 use Rattle.ap_desc.specs.Instructions.{Block, act_of, arg_of, begun, blocks_of, instr_of, local_names, micros_of, stage_of, with_line}
 use Rattle.ap_desc.specs.NameFaults as n
 use Rattle.ap_desc.specs.Order.{is_micro}
-use Rattle.ap_desc.specs.Parts.{fields_named}
 use Rattle.ap_desc.specs.Scope.{Scope, open_fields, open_lines, scope_after}
 use Rattle.ap_desc.specs.WidthFaults as widths
-use Rattle.ap_desc.specs.Widths as w
 use Rattle.ap_check.specs.Added.{IsLineAddedAs}
 use Rattle.ap_check.specs.Drafts.{AreNarrow, draft_fields, draft_widths, instr_with, line_fault, local_in, width_fault, width_in, with_line as with_draft_line}
 use Rattle.ap_check.specs.Known.{Describes, IsSplit}

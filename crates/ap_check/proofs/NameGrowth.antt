@@ -9,28 +9,25 @@ use Rattle.std.proofs.lemmas.List.Folds.{list_all-append}
 use Rattle.ap_bits.specs.Cards.{latency_at, operation_names}
 use Rattle.ap_bits.specs.declared.card.Card.{Card}
 use Rattle.ap_desc.specs.declared.description.Numbered.{Numbered}
-use Rattle.ap_desc.specs.declared.design.Field.{Field}
 use Rattle.ap_desc.specs.declared.design.File.{File}
 use Rattle.ap_desc.specs.declared.design.Format.{Format}
 use Rattle.ap_desc.specs.declared.design.InPort.{InPort}
 use Rattle.ap_desc.specs.declared.design.Mem.{Mem}
 use Rattle.ap_desc.specs.declared.design.Reg.{Reg}
 use Rattle.ap_desc.specs.declared.design.Unit.{Unit as Resource}
-use Rattle.ap_desc.specs.declared.fault.Fault.{Fault}
 use Rattle.ap_desc.specs.declared.statement.FieldNumber.{FieldNumber}
 use Rattle.ap_desc.specs.declared.statement.Statement.{Statement}
 use Rattle.ap_desc.specs.declared.statement.Statement.TheVariants as s
 use Rattle.ap_desc.specs.Declarations.{fields_said}
-use Rattle.ap_desc.specs.Instructions.{assigned_name}
 use Rattle.ap_desc.specs.NameFaults as n
-use Rattle.ap_desc.specs.Parts.{card_named, fields_named, format_names, kind_names, named, names_of_fields, place_of}
+use Rattle.ap_desc.specs.Parts.{card_named, format_names, kind_names, names_of_fields, place_of}
 use Rattle.ap_desc.specs.Reserved.{is_among}
 use Rattle.ap_desc.specs.Scope.{Scope, scope_with}
 use Rattle.ap_desc.specs.Spelling.{field_names}
 use Rattle.ap_check.specs.Known.{IsOpen, KnowsNames, has_kind, operations_of, ports_of, tables_of}
 use Rattle.ap_check.specs.Names.{with_name}
 use Rattle.ap_check.specs.Tables.{first_name_fault, is_local_taken, is_part, is_twice, is_unknown, is_without, name_fault}
-use Rattle.ap_check.specs.Uses.{declared_with, use_of, with_assigned}
+use Rattle.ap_check.specs.Uses.{declared_with, use_of}
 use Rattle.ap_check.specs.declared.declared.Declared.{Declared}
 use Rattle.ap_check.specs.declared.declared.Ports.{Ports}
 use Rattle.ap_check.specs.declared.uses.Use.{Use}

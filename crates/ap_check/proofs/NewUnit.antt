@@ -1,5 +1,5 @@
 -- What a unit uses, by the kind that is found on the shelf.
-use Rattle.std.proofs.Common.{◌≡◌, ℕ, ◌+◌, ◌++◌, ◌∷◌, Bool, true, false, not, List, [], Ok, Err, Option, Some, None, refl, sym, ap, ◌∙◌, subst, arith}
+use Rattle.std.proofs.Common.{◌≡◌, ℕ, ◌+◌, ◌++◌, ◌∷◌, true, false, not, List, [], Ok, Err, Option, Some, None, refl, sym, ap, ◌∙◌, subst}
 use Rattle.std.specs.List.{position_from}
 use Rattle.std.specs.Option.{option_map_or}
 use Rattle.std.specs.Prelude.{Result}
@@ -19,7 +19,6 @@ use Rattle.ap_check.specs.Uses.{IsStoppedBy, use_of}
 use Rattle.ap_check.specs.declared.draft.Draft.{Draft}
 use Rattle.ap_check.specs.declared.stop.Stop.{Stop}
 use Rattle.ap_check.specs.declared.declared.Declared.{Declared}
-use Rattle.ap_check.specs.declared.uses.Use.{Use}
 use Rattle.ap_check.specs.declared.uses.Use.TheVariants as u
 use Rattle.ap_check.proofs.FirstFaults.{no_kind_first, no_name_fault, not_broken, not_kept}
 use Rattle.ap_check.proofs.NameLists.{kind_from, no_kind_from}

@@ -1,5 +1,5 @@
 -- Faults of statements with one more at the end, and what is noted of them.
-use Rattle.std.proofs.Common.{◌≡◌, ℕ, ◌<◌, ◌≤◌, Bool, true, false, List, [], ◌∷◌, ◌++◌, ◌⊎◌, inl, inr, Option, Some, None, refl, sym, ap, subst, ◌∙◌, arith, append_assoc, true≢false}
+use Rattle.std.proofs.Common.{◌≡◌, ℕ, ◌<◌, true, false, List, [], ◌∷◌, ◌++◌, ◌⊎◌, inl, inr, refl, sym, ap, subst, ◌∙◌, arith, append_assoc, true≢false}
 use Rattle.std.specs.Prelude.{IsTrue}
 use Rattle.ap_bits.specs.declared.card.Card.{Card}
 use Rattle.ap_desc.specs.declared.description.Numbered.{Numbered}
@@ -7,11 +7,11 @@ use Rattle.ap_desc.specs.declared.fault.Fault.{Fault}
 use Rattle.ap_desc.specs.declared.fault.Refusal.{Refusal}
 use Rattle.ap_desc.specs.Descriptions.{RiseAbove}
 use Rattle.ap_desc.specs.Faults.{IsBefore}
-use Rattle.ap_desc.specs.FaultTable.{phase_of, number_of}
+use Rattle.ap_desc.specs.FaultTable.{phase_of}
 use Rattle.ap_desc.specs.Least.{HoldsNowhere, IsLeast}
 use Rattle.ap_desc.specs.Scope.{scope_after}
 use Rattle.ap_desc.specs.StatementFaults.{HasStatementFault, is_faulty}
-use Rattle.ap_check.specs.Known.{HasFaultOf, IsNoted}
+use Rattle.ap_check.specs.Known.{HasFaultOf}
 use Rattle.ap_check.specs.Phases.{HoldsNoneOf, IsFirstOf}
 use Rattle.ap_check.proofs.Places.{IsBeside, beside, later_line}
 

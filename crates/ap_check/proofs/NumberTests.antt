@@ -1,5 +1,5 @@
 -- Tests of numbers that are large.
-use Rattle.std.proofs.Common.{◌≡◌, ℕ, ◌<◌, ◌≤◌, ◌^◌, ◌==◌, Bool, true, false, nat_lt, nat_le, refl, sym, ◌∙◌, arith, pow_mono}
+use Rattle.std.proofs.Common.{◌≡◌, ℕ, ◌<◌, ◌≤◌, ◌^◌, ◌==◌, nat_lt, nat_le, arith, pow_mono}
 use Rattle.std.proofs.lemmas.Bool.Decides.{nat_tests}
 
 -- all of 64 bits fits a larger width

@@ -1,5 +1,5 @@
 -- The least fault of a description from the first statement with a fault of names, and from what is noted at the end.
-use Rattle.std.proofs.Common.{◌≡◌, ℕ, ◌<◌, ◌≤◌, Bool, true, false, List, [], ◌∷◌, ◌++◌, ◌⊎◌, inl, inr, refl, sym, ap, subst, ◌∙◌, arith, true≢false}
+use Rattle.std.proofs.Common.{◌≡◌, ℕ, ◌<◌, true, false, List, ◌∷◌, ◌++◌, ◌⊎◌, inl, inr, refl, sym, ap, subst, ◌∙◌, arith, true≢false}
 use Rattle.std.specs.Prelude.{IsTrue}
 use Rattle.ap_bits.specs.declared.card.Card.{Card}
 use Rattle.ap_desc.specs.declared.description.Numbered.{Numbered}
@@ -9,14 +9,13 @@ use Rattle.ap_desc.specs.declared.fault.Fault.TheVariants as f
 use Rattle.ap_desc.specs.declared.fault.Refusal.{Refusal}
 use Rattle.ap_desc.specs.Descriptions.{IsDescription}
 use Rattle.ap_desc.specs.Faults.{IsBefore}
-use Rattle.ap_desc.specs.FaultTable.{phase_of, number_of}
+use Rattle.ap_desc.specs.FaultTable.{phase_of}
 use Rattle.ap_desc.specs.Least.{HoldsNowhere, IsLeast}
 use Rattle.ap_desc.specs.Scope.{scope_after}
-use Rattle.ap_desc.specs.StatementFaults.{HasStatementFault, IsLineOf, is_faulty}
+use Rattle.ap_desc.specs.StatementFaults.{HasStatementFault, is_faulty}
 use Rattle.ap_desc.specs.declared.statement.Statement.{Statement}
 use Rattle.ap_desc.specs.Scope.{Scope}
 use Rattle.ap_check.specs.Known.{HasFaultOf, IsNameFault}
-use Rattle.ap_check.specs.Phases.{IsFirstOf}
 use Rattle.ap_check.proofs.Places.{not_later}
 
 -- faults of statements are of the phases 2 and 3

@@ -1,12 +1,11 @@
 -- What is known before the first statement.
-use Rattle.std.proofs.Common.{◌≡◌, ℕ, ◌≤◌, List, [], Option, None, refl, sym, subst, arith}
+use Rattle.std.proofs.Common.{◌≡◌, ℕ, List, [], None, refl, sym, subst, arith}
 use Rattle.ap_bits.specs.declared.card.Card.{Card}
 use Rattle.ap_desc.specs.declared.description.Numbered.{Numbered}
 use Rattle.ap_desc.specs.Least.{HoldsNowhere}
 use Rattle.ap_check.specs.Known.{HasFaultOf, Knows}
 use Rattle.ap_check.specs.declared.declared.Declared.{Declared}
 use Rattle.ap_check.specs.declared.draft.Draft.{Draft}
-use Rattle.ap_check.specs.declared.environment.Environment.{Environment}
 use Rattle.ap_check.proofs.Noted.{no_parts}
 
 abbrev pub no_names : Declared

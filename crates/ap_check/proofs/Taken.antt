@@ -1,5 +1,5 @@
 -- One more statement: what the environment knows after it.
-use Rattle.std.proofs.Common.{◌≡◌, ℕ, Bool, true, false, List, [], ◌∷◌, ◌++◌, Option, Some, None, option_map, refl, sym, ap, subst, ◌∙◌}
+use Rattle.std.proofs.Common.{◌≡◌, ℕ, true, false, List, [], ◌∷◌, ◌++◌, Option, Some, None, option_map, refl, sym, ap, subst, ◌∙◌}
 use Rattle.std.specs.Prelude.{Result, Ok, Err}
 use Rattle.std.specs.Option.{option_map_or}
 use Rattle.ap_bits.specs.declared.card.Card.{Card}
@@ -22,7 +22,6 @@ use Rattle.ap_desc.specs.NameFaults as n
 use Rattle.ap_desc.specs.Order.{is_micro, section}
 use Rattle.ap_desc.specs.Parts.{place_of}
 use Rattle.ap_desc.specs.Scope.{Scope, scope_after, scope_with, with_declared}
-use Rattle.ap_desc.specs.Spelling.{field_names}
 use Rattle.ap_desc.specs.StatementFaults.{is_faulty}
 use Rattle.ap_check.specs.Added.{HasFixed, IsAdded, IsInstrAdded, IsLineAdded}
 use Rattle.ap_check.specs.Drafts.{width_fault}

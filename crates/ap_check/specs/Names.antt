@@ -1,5 +1,5 @@
 -- Names in the order in which they were declared, and how one is looked up.
-use Rattle.std.specs.Prelude.{◌≡◌, ℕ, ◌<◌, not, false, IsTrue, List, [], ◌∷◌, ◌++◌, length, Option, Some, None, if◌then◌else◌}
+use Rattle.std.specs.Prelude.{◌≡◌, ℕ, ◌<◌, false, IsTrue, List, [], ◌∷◌, ◌++◌, length, Option, Some, None, if◌then◌else◌}
 use Rattle.ap_desc.specs.Parts.{place_of}
 use Rattle.ap_desc.specs.Reserved.{is_among}
 

@@ -8,7 +8,6 @@ use Rattle.ap_desc.specs.declared.fault.Fault.{Fault}
 use Rattle.ap_desc.specs.declared.fault.Refusal.{Refusal}
 use Rattle.ap_desc.specs.FaultTable.{phase_of}
 use Rattle.ap_check.specs.Added.{IsAdded}
-use Rattle.ap_check.specs.declared.draft.Draft.{Draft}
 use Rattle.ap_check.specs.declared.environment.Environment.{Environment}
 use Rattle.ap_check.specs.declared.stop.Stop.{Stop}
 use Rattle.ap_check.specs.declared.stop.Stop.TheVariants as stop

@@ -1,5 +1,5 @@
 -- What a statement uses of what is declared before it, and what stops it.
-use Rattle.std.specs.Prelude.{◌≡◌, ℕ, List, [], ◌∷◌, ◌++◌, Option, Some, None, option_map, option_to_list, Result, MatchResult}
+use Rattle.std.specs.Prelude.{◌≡◌, ℕ, List, [], ◌∷◌, ◌++◌, Option, Some, None, option_to_list, Result, MatchResult}
 use Rattle.std.specs.Option.{option_map_or}
 use Rattle.ap_bits.specs.Cards.{operation_names}
 use Rattle.ap_bits.specs.declared.card.Card.{Card}

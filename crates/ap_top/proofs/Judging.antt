@@ -1,6 +1,6 @@
 -- A description that is good isn't refused, and what is judged of the bytes that were read is so of the file.
 use Rattle.std.proofs.Common.{◌≡◌, ℕ, ◌<◌, List, [], ◌∷◌, ◌++◌, length, take, Option, Some, None, refl, sym, subst, ◌∙◌, arith, inl, inr, ⊎_elim, append_assoc}
-use Rattle.std.specs.Prelude.{◌⊎◌, IfSome, IsSomeAnd}
+use Rattle.std.specs.Prelude.{◌⊎◌, IfSome}
 use Rattle.std.proofs.lemmas.Bool.{cases_lt}
 use Rattle.ap_bits.specs.declared.card.Card.{Card}
 use Rattle.ap_text.specs.Lines.{TextLine, lines_of}
@@ -28,7 +28,7 @@ use Rattle.ap_top.specs.Endings.{IsAnswer, IsDone}
 use Rattle.ap_top.specs.Form.{AreLines, HasAddition, HasJudgedFault, IsFormDescription, IsForm, IsLine, IsNotBuiltAt, HasReadFault, DueToken, first_form}
 use Rattle.ap_top.specs.Generate.{gen_sources, gen_targets}
 use Rattle.ap_top.specs.Inputs as inputs
-use Rattle.ap_top.specs.Inputs.{AreGood, AreInputsGood, AsksRefusal, HasGoodInputs, IsGoodInput, IsRefusalDue, IsRefused, RefusesOne, Source, inputs_of, with_text}
+use Rattle.ap_top.specs.Inputs.{AreGood, AreInputsGood, AsksRefusal, HasGoodInputs, IsRefusalDue, IsRefused, RefusesOne, Source, inputs_of, with_text}
 use Rattle.ap_top.specs.Outputs.{Target, FromGood, IsBegunOn, Writes}
 use Rattle.ap_top.specs.Refusals.{IsOrMemory, refusal_status, stop_of}
 use Rattle.ap_top.specs.Troubles.{StopsOn}

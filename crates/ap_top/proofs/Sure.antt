@@ -5,7 +5,6 @@ use Rattle.ap_desk.specs.declared.counts.Counts.{Counts}
 use Rattle.ap_desk.specs.Causes.{Rose}
 use Rattle.ap_top.specs.declared.command.Command.{Command}
 use Rattle.ap_top.specs.declared.command.Command.TheVariants.{Gen}
-use Rattle.ap_top.specs.Calls.{Call}
 use Rattle.ap_top.specs.Inputs.{Source, AreGood, AreInputsGood, LacksOne, FailsOn, HasFailed, inputs_of, with_text}
 
 -- the counts of a desk on which no call fails

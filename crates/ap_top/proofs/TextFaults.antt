@@ -1,5 +1,5 @@
 -- The least fault of a text: of form, or, where it has none, of what it reads as.
-use Rattle.std.proofs.Common.{◌≡◌, ℕ, ◌<◌, ◌≤◌, Bool, true, false, List, inl, inr, refl, subst, lit<, arith}
+use Rattle.std.proofs.Common.{◌≡◌, ℕ, ◌<◌, false, List, inl, inr, refl, subst, lit<, arith}
 use Rattle.std.proofs.lemmas.Bool.{both_ways}
 use Rattle.ap_bits.specs.declared.card.Card.{Card}
 use Rattle.ap_desc.proofs.LeastFaults.{design_phase, found_from_least, least_from_found, not_before_earlier}

@@ -1,5 +1,5 @@
 -- A sound design in which neither words nor ports and stages have a fault is clean.
-use Rattle.std.proofs.Common.{◌≡◌, ℕ, ◌≤◌, refl, arith}
+use Rattle.std.proofs.Common.{ℕ, refl, arith}
 use Rattle.ap_desc.specs.Clean.{HasDesignFault, IsClean}
 use Rattle.ap_desc.specs.Least.{HoldsNowhere}
 use Rattle.ap_desc.specs.Meaning.{MeetsPortFault, MeetsWordFault}

@@ -4,7 +4,7 @@ use Rattle.ap_bits.specs.declared.card.Card.{Card}
 use Rattle.ap_desc.specs.Clean.{FitsCards}
 use Rattle.ap_desc.specs.DesignOf.{design_of}
 use Rattle.ap_desc.specs.Least.{HoldsNowhere}
-use Rattle.ap_desc.specs.Meaning.{MeetsPortFault, MeetsWordFault}
+use Rattle.ap_desc.specs.Meaning.{MeetsPortFault}
 use Rattle.ap_desc.specs.Sound.{IsSound}
 use Rattle.ap_desc.specs.declared.design.Design.{Design}
 use Rattle.ap_unit.specs.Shelves.{cards_of}

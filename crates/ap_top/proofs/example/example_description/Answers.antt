@@ -1,4 +1,4 @@
-use Rattle.std.proofs.Common.{ℕ, refl, [], ◌∷◌, true, inl, inr, lit≤, lit<, rules}
+use Rattle.std.proofs.Common.{ℕ, refl, true, inl, inr, lit≤, lit<, rules}
 use Rattle.std.specs.Prelude.{codes}
 use Rattle.std.proofs.lemmas.Bool.{both_ways}
 use Rattle.ap_desc.proofs.Apart.{no_word_shared}

@@ -1,4 +1,4 @@
-use Rattle.std.proofs.Common.{◌≡◌, map}
+use Rattle.std.proofs.Common.{map}
 use Rattle.std.specs.String.{string_bytes}
 use Rattle.ap_unit.specs.Shelves.{cards_of}
 use Rattle.ap_top.specs.Calls.{call_of}

@@ -1,0 +1,9 @@
+pub mod AsmFaults
+pub mod Assembled
+pub mod Behind
+pub mod Conflicts
+pub mod Layouts
+pub mod LinePlaces
+pub mod Listings
+pub mod Standing
+pub mod Words
