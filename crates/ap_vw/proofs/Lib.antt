@@ -1,0 +1,4 @@
+pub mod Digits
+pub mod NetText
+pub mod Printed
+pub mod Written

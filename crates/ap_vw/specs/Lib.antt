@@ -1,0 +1,4 @@
+pub mod Pieces
+pub mod NetLines
+pub mod LeftLines
+pub mod Printing
