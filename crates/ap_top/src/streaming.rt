@@ -57,10 +57,10 @@ fn append_netlist<D: Desk>(
     let mut held = Vec::new(alloc);
     let mut more = true;
     while more {
-        match printer.line(&mut held) {
-            Ok(next) => more = next,
-            Err(_) => return Err(DeskFault::NoMemory),
-        }
+        let Ok(next) = printer.line(&mut held) else {
+            return Err(DeskFault::NoMemory);
+        };
+        more = next;
         flush(desk, name, PIECE, &mut held)?;
     }
     flush(desk, name, 1, &mut held)?;
