@@ -9,7 +9,6 @@ pub mod Renumbered
 pub mod Parts
 pub mod Finished
 pub mod Among
-pub mod Fronts
 pub mod Netlists
 pub mod Whole
 pub mod Located

@@ -1,4 +1,5 @@
-//! Nets, cells and modules of the Verilog subset: what they mean, a builder that makes them, and their one spelling.
+//! Nets, cells and modules of the Verilog subset: what they mean, and a builder that makes them. What the one spelling of a netlist is
+//! stands in `specs/Text.antt`.
 #![tactic(auto)]
 
 pub mod builder;
@@ -9,6 +10,5 @@ pub mod name;
 pub mod net;
 pub mod readiness;
 pub mod solve;
-pub mod write;
 
 pub use ap_bits::NoMemory;

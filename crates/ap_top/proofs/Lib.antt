@@ -13,3 +13,4 @@ pub mod Behaviour
 pub mod Sure
 pub mod TextFaults
 pub mod Additions
+pub mod Streamed

@@ -16,3 +16,4 @@ pub mod Endings
 pub mod Troubles
 pub mod Generate
 pub mod Example
+pub mod Streaming

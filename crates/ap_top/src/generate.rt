@@ -7,16 +7,17 @@ ghost use Rattle.ap_top.specs.Outputs.{FromGood, Writes};
 ghost use Rattle.ap_top.specs.Troubles.{IsCaused, StopsOn, desk_stop};
 
 use crate::addition::find_addition;
-use crate::design::design_text;
+use crate::design::processor;
 use crate::form::judge;
 use crate::refusal::Stop;
+use crate::streaming::write_netlist;
 use ap_desk::desk::Desk;
-use ap_desk::pieces::{read_all, write_all};
+use ap_desk::pieces::read_all;
 use ap_read::DESCRIPTION_LIMIT;
 use ap_unit::{Shelf, UnitKind};
 use std::alloc::Global;
 
-/// Reads the description, judges it, and writes the processor in Verilog.
+/// Reads the description, judges it, and writes the processor in Verilog, whose text is appended as it is printed.
 pub(crate) fn generate<D: Desk>(
     alloc: Global,
     description: &str,
@@ -40,7 +41,7 @@ pub(crate) fn generate<D: Desk>(
     let form = judge(alloc, &text, shelf)?;
     let addition = find_addition(shelf, form.width).unwrap();
     let kind = shelf.kind(addition.place);
-    let design = design_text(alloc, &form, kind, addition.number)?;
-    write_all(desk, verilog, &design)?;
+    let netlist = processor(alloc, &form, kind, addition.number)?;
+    write_netlist(alloc, desk, verilog, &netlist)?;
     Ok(())
 }

@@ -13,3 +13,4 @@ pub mod pattern;
 mod printing;
 pub mod refusal;
 pub mod serve;
+mod streaming;

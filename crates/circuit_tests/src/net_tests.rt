@@ -1,4 +1,4 @@
-ghost use Rattle.std.specs.Prelude.{◌≡◌, ◌∷◌, ◌≤◌, [], codes, slice_index};
+ghost use Rattle.std.specs.Prelude.{◌≡◌, ◌∷◌, ◌≤◌, [], codes, slice_index, IfOk};
 ghost use Rattle.ap_net.specs.Cells.{CellFits, two_value, cell_value};
 ghost use Rattle.circuit_tests.specs.Examples.{wire, three_inputs, inverter, over_inverter, inverter_opened, inverter_text};
 ghost use Rattle.ap_net.specs.Flat.{opened, value_in_part, register_in, reset_in};
@@ -9,7 +9,7 @@ use ap_net::builder::Builder;
 use ap_net::cell::{Cell, TwoOp, Wire};
 use ap_net::module::{Module, Netlist};
 use ap_net::net::Role;
-use ap_net::write::write;
+use ap_vw::{Printer, write};
 use std::alloc::Global;
 use std::process::Abort;
 use std::test::Fail;
@@ -21,7 +21,7 @@ fn text_of(alloc: Global, top: Module) -> Result<Vec<u8>, NoMemory>
 {
     let net = Netlist::of_top(alloc, top)?;
     let mut text = Vec::new(alloc);
-    write(alloc, &net, &mut text)?;
+    write(&net, &mut text)?;
     Ok(text)
 }
 
@@ -51,10 +51,11 @@ const COUNTER: &str = "module top (
 endmodule
 ";
 
-#[test]
 #[tactic(auto, using(crate::proofs::Tested::tested))]
-fn writes_a_counter(rt: HostRuntime) -> Result<(), Fail> {
-    let alloc = rt.alloc();
+fn counter_module(alloc: Global) -> Result<Module, NoMemory>
+    ensures name { IfOk result (λ top. top.name ≡ codes "top") }
+    ensures alone { IfOk result (λ top. top.instances ≡ []) }
+{
     let mut b = Builder::new(alloc, b"top")?;
     let iaddr = b.output(b"iaddr", 4)?;
     let idata = b.input(b"idata", 8)?;
@@ -74,8 +75,38 @@ fn writes_a_counter(rt: HostRuntime) -> Result<(), Fail> {
     b.cell(enable, Cell::Const(1))?;
     b.cell(value, Cell::Copy(idata))?;
     b.next(pc, after)?;
-    let text = text_of(alloc, b.finish()?)?;
+    let top = b.finish()?;
+    Ok(top)
+}
+
+#[test]
+fn writes_a_counter(rt: HostRuntime) -> Result<(), Fail> {
+    let alloc = rt.alloc();
+    let text = text_of(alloc, counter_module(alloc)?)?;
     assert_eq!(rt; text.as_slice(), COUNTER.as_bytes());
+    Ok(())
+}
+
+/// Each line is appended by a call of its own: 23 answer true, and the next one false.
+#[test]
+fn prints_a_counter_line_by_line(rt: HostRuntime) -> Result<(), Fail> {
+    let alloc = rt.alloc();
+    let net = Netlist::of_top(alloc, counter_module(alloc)?)?;
+    let mut printer = Printer::new(&net);
+    let mut printed = Vec::new(alloc);
+    let mut lines: usize = 0;
+    for line in COUNTER.split_inclusive('\n') {
+        let mut text = Vec::new(alloc);
+        let more = printer.line(&mut text)?;
+        assert!(rt; more);
+        assert_eq!(rt; text.as_slice(), line.as_bytes());
+        printed.extend_from_slice(line.as_bytes())?;
+        lines = lines.saturating_add(1);
+    }
+    assert_eq!(rt; lines, 23);
+    let more = printer.line(&mut printed)?;
+    assert!(rt; !more);
+    assert_eq!(rt; printed.as_slice(), COUNTER.as_bytes());
     Ok(())
 }
 

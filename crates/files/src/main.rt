@@ -11,8 +11,8 @@ use ap_bits::{Name, NoMemory};
 use ap_desc::design::File;
 use ap_net::builder::Builder;
 use ap_net::module::Netlist;
-use ap_net::write::write;
 use ap_store::build_file;
+use ap_vw::write;
 use std::alloc::Global;
 use std::rt::Env;
 use std::{env, io};
@@ -66,7 +66,7 @@ fn file_text(alloc: Global, file: &File, stages: &[u32]) -> Result<Vec<u8>, NoMe
     let net = Netlist::of_top(alloc, out.finish()?)?;
     net.rules();
     let mut text = Vec::new(alloc);
-    write(alloc, &net, &mut text)?;
+    write(&net, &mut text)?;
     Ok(text)
 }
 

@@ -14,8 +14,8 @@ use ap_div::Div;
 use ap_mul::Mul;
 use ap_net::builder::Builder;
 use ap_net::module::Netlist;
-use ap_net::write::write;
 use ap_unit::{Shelf, UnitKind};
+use ap_vw::write;
 use std::alloc::Global;
 use std::rt::Env;
 use std::{env, io};
@@ -30,7 +30,7 @@ fn unit_text(alloc: Global, kind: &dyn UnitKind, w: u32) -> Result<Vec<u8>, NoMe
     let net = Netlist::of_top(alloc, out.finish()?)?;
     net.rules();
     let mut text = Vec::new(alloc);
-    write(alloc, &net, &mut text)?;
+    write(&net, &mut text)?;
     Ok(text)
 }
 

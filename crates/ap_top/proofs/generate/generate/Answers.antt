@@ -1,5 +1,6 @@
 use Rattle.std.proofs.Common.{subst}
 use Rattle.std.proofs.lemmas.Result.{err_from_is_err_and}
+use Rattle.ap_net.specs.Text.{netlist_text}
 use Rattle.ap_top.specs.Generate.{gen_sources}
 use Rattle.ap_top.specs.Form.{IsFormDescription, HasReadFault}
 use Rattle.ap_unit.specs.Shelves.{cards_of}
@@ -20,16 +21,16 @@ returns-in_err-form-clause-stopped g c =
     rw (p.1, p.2) (judged_stop _ _ _ c.args.description.now c.args.verilog.now c.in_ok-text.text.items c.in_err-form.field-0.0 c.read_all.ensures.same c.in_ok-text.ensures.whole
     (subst (λ t. HasReadFault (cards_of (λ x. (goal.UnitKind-dyn g x).card x.1) c.args.shelf.now) t c.in_err-form.field-0.0) c.deref.ensures.value c.in_err-form.ensures.refused))
 
-pub returns-in_err-write_all-clause-stopped : goal.returns-in_err-write_all-clause-stopped
-returns-in_err-write_all-clause-stopped g c =
-    let p = err_from_is_err_and c.from_residual-in_err-write_all.result c.from_residual-in_err-write_all.ensures.1 in
-    rw (p.1, p.2) (writing_stop _ _ _ _ c.args.description.now c.args.verilog.now c.in_ok-text.text.items c.deref-2.result.now c.in_ok-form.form c.read_all.ensures.same c.in_ok-text.ensures.whole
-    (subst (λ t. IsFormDescription (cards_of (λ x. (goal.UnitKind-dyn g x).card x.1) c.args.shelf.now) t c.in_ok-form.form) c.deref.ensures.value c.in_ok-form.ensures.form) _ (addition_of _ _ _ _ _ (at_some _ _ _ c.unwrap-addition.ensures c.find_addition.ensures.some) c.kind-kind.ensures) (rw c.deref-2.ensures.value c.in_ok-design.ensures) c.in_err-write_all.ensures.err)
+pub returns-in_err-write_netlist-clause-stopped : goal.returns-in_err-write_netlist-clause-stopped
+returns-in_err-write_netlist-clause-stopped g c =
+    let p = err_from_is_err_and c.from_residual-in_err-write_netlist.result c.from_residual-in_err-write_netlist.ensures.1 in
+    rw (p.1, p.2) (writing_stop _ _ _ _ c.args.description.now c.args.verilog.now c.in_ok-text.text.items (netlist_text c.in_ok-netlist.netlist) c.in_ok-form.form c.read_all.ensures.same c.in_ok-text.ensures.whole
+    (subst (λ t. IsFormDescription (cards_of (λ x. (goal.UnitKind-dyn g x).card x.1) c.args.shelf.now) t c.in_ok-form.form) c.deref.ensures.value c.in_ok-form.ensures.form) _ (addition_of _ _ _ _ _ (at_some _ _ _ c.unwrap-addition.ensures c.find_addition.ensures.some) c.kind-kind.ensures) c.in_ok-netlist.ensures c.in_err-write_netlist.ensures.err)
 
 pub returns-clause-done : goal.returns-clause-done
 returns-clause-done g c =
-    written _ _ _ _ c.args.description.now c.args.verilog.now c.in_ok-text.text.items c.deref-2.result.now c.in_ok-form.form c.read_all.ensures.same c.in_ok-text.ensures.whole
-    (subst (λ t. IsFormDescription (cards_of (λ x. (goal.UnitKind-dyn g x).card x.1) c.args.shelf.now) t c.in_ok-form.form) c.deref.ensures.value c.in_ok-form.ensures.form) _ (addition_of _ _ _ _ _ (at_some _ _ _ c.unwrap-addition.ensures c.find_addition.ensures.some) c.kind-kind.ensures) (rw c.deref-2.ensures.value c.in_ok-design.ensures) c.in_ok-write_all.ensures.ok
+    written _ _ _ _ c.args.description.now c.args.verilog.now c.in_ok-text.text.items (netlist_text c.in_ok-netlist.netlist) c.in_ok-form.form c.read_all.ensures.same c.in_ok-text.ensures.whole
+    (subst (λ t. IsFormDescription (cards_of (λ x. (goal.UnitKind-dyn g x).card x.1) c.args.shelf.now) t c.in_ok-form.form) c.deref.ensures.value c.in_ok-form.ensures.form) _ (addition_of _ _ _ _ _ (at_some _ _ _ c.unwrap-addition.ensures c.find_addition.ensures.some) c.kind-kind.ensures) c.in_ok-netlist.ensures c.in_ok-write_netlist.ensures.ok
 
 pub returns-in_err-text-clause-cause : goal.returns-in_err-text-clause-cause
 returns-in_err-text-clause-cause g c =
@@ -41,7 +42,7 @@ returns-in_err-form-clause-cause g c =
     let p = err_from_is_err_and c.from_residual-in_err-form.result c.from_residual-in_err-form.ensures.1 in
     rw (p.1, p.2) (kept _ _ _ _ _ c.in_ok-text.ensures.cause (judging_never c.in_err-form.field-0.0))
 
-pub returns-in_err-write_all-clause-cause : goal.returns-in_err-write_all-clause-cause
-returns-in_err-write_all-clause-cause g c =
-    let p = err_from_is_err_and c.from_residual-in_err-write_all.result c.from_residual-in_err-write_all.ensures.1 in
-    rw (p.1, p.2) (writing_gave_up (cards_of (λ x. (goal.UnitKind-dyn g x).card x.1) c.args.shelf.now) (gen_sources c.args.description.now) (g.D.Desk.files c.args.desk.now) _ _ _ c.in_err-write_all.field-0.0 c.in_ok-text.ensures.cause c.in_err-write_all.ensures.cause c.in_err-write_all.ensures.not_missing)
+pub returns-in_err-write_netlist-clause-cause : goal.returns-in_err-write_netlist-clause-cause
+returns-in_err-write_netlist-clause-cause g c =
+    let p = err_from_is_err_and c.from_residual-in_err-write_netlist.result c.from_residual-in_err-write_netlist.ensures.1 in
+    rw (p.1, p.2) (writing_gave_up (cards_of (λ x. (goal.UnitKind-dyn g x).card x.1) c.args.shelf.now) (gen_sources c.args.description.now) (g.D.Desk.files c.args.desk.now) _ _ _ c.in_err-write_netlist.field-0.0 c.in_ok-text.ensures.cause c.in_err-write_netlist.ensures.cause c.in_err-write_netlist.ensures.not_missing)

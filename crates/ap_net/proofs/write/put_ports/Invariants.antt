@@ -1,7 +1,0 @@
-use Rattle.std.proofs.Common.{◌≡◌, ◌++◌, take}
-use Rattle.std.specs.List.{flat_map}
-use Rattle.ap_net.specs.Text.{port_text}
-use Rattle.ap_net.proofs.write.put_ports.Given as goal
-
-abbrev pub invariant-loop-port : goal.invariant-loop-port
-invariant-loop-port l = l.out.items ≡ l.fn.out.items ++ flat_map port_text (take l.port-index l.ports)

@@ -1,0 +1,36 @@
+use Rattle.std.proofs.Common.{refl, ◌∙◌}
+use Rattle.std.proofs.lemmas.Result.{err_from_is_err_and}
+use Rattle.ap_top.proofs.Streamed.{fewer_left, streaming_done, streaming_failed, streaming_first, streaming_line, streaming_moved, streaming_stopped}
+use Rattle.ap_top.proofs.streaming.append_netlist.Goals as goal
+
+pub loop-more-init : goal.loop-more-init
+loop-more-init g c = record {
+  text = rw c.new-held.ensures.items (streaming_first _ _ _ _ c.new-printer.ensures.text);
+  counts = refl;
+}
+
+pub loop-more-preserved : goal.loop-more-preserved
+loop-more-preserved g c = record {
+  text = streaming_moved _ _ _ _ _ _ _ _ _ (streaming_line _ _ _ _ _ _ _ _ _ _ c.loop-more.invariant.text c.in-Ok.ensures.ok) c.in_ok-flush.ensures.ok;
+  counts = c.in_ok-flush.ensures.cause ∙ c.loop-more.invariant.counts;
+}
+
+pub loop-more-smaller : goal.loop-more-smaller
+loop-more-smaller g c = rw c.loop-more-test.true (fewer_left _ _ _ _ _ c.in-Ok.ensures.ok)
+
+pub returns-else-next-clause-err : goal.returns-else-next-clause-err
+returns-else-next-clause-err g c = streaming_stopped _ _ _ _ _ _ _ c.loop-more.invariant.text
+
+pub returns-in_err-flush-clause-err : goal.returns-in_err-flush-clause-err
+returns-in_err-flush-clause-err g c =
+    let p = err_from_is_err_and c.from_residual.result c.from_residual.ensures.1 in
+    rw p.1 (streaming_failed _ _ _ _ _ _ _ _ (streaming_line _ _ _ _ _ _ _ _ _ _ c.loop-more.invariant.text c.in-Ok.ensures.ok) c.in_err-flush.ensures.err)
+
+pub returns-in_err-flush-2-clause-err : goal.returns-in_err-flush-2-clause-err
+returns-in_err-flush-2-clause-err g c =
+    let p = err_from_is_err_and c.from_residual-2.result c.from_residual-2.ensures.1 in
+    rw p.1 (streaming_failed _ _ _ _ _ _ _ _ c.loop-more.invariant.text c.in_err-flush-2.ensures.err)
+
+pub returns-clause-ok : goal.returns-clause-ok
+returns-clause-ok g c =
+    streaming_done _ _ _ _ _ _ (streaming_moved _ _ _ _ _ _ _ _ _ (rw c.loop-more-test.false at c.loop-more.invariant.text) c.in_ok-flush-2.ensures.ok) c.in_ok-flush-2.ensures.few c.requires.there
