@@ -64,7 +64,7 @@ fn reset_among(ports: &[Port], wires: &[Net], regs: &[RegNet], number: usize) ->
 
 impl Module {
     /// A module of these parts.
-    pub(crate) fn of_parts(
+    pub fn of_parts(
         name: NetName,
         ports: Vec<Port>,
         wires: Vec<Net>,
