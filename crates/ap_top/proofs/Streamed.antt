@@ -24,13 +24,13 @@ pub streaming_line : (name text : List ℕ) (start now : Option Files) (held hel
 streaming_line name text start now held held' [] new more next h p = record {
   front = h.front;
   files = h.files;
-  parts = h.parts ∙ (λ i. h.front ++ (p.2 (~ i) ++ text_of (p.1 (~ i))));
+  parts = h.parts ∙ sym (λ i. h.front ++ (p.2 i ++ text_of (p.1 i)));
   none = λ _. p.1;
 }
 streaming_line name text start now held held' (line ∷ lines) new more next h p = record {
   front = h.front;
   files = h.files;
-  parts = h.parts ∙ ap (λ t. h.front ++ t) (sym (append_assoc held line (text_of lines))) ∙ (λ i. h.front ++ (p.2 (~ i) ++ text_of (p.1 (~ i))));
+  parts = h.parts ∙ ap (λ t. h.front ++ t) (sym (append_assoc held line (text_of lines))) ∙ sym (λ i. h.front ++ (p.2 i ++ text_of (p.1 i)));
   none = λ e. absurd (true≢false (sym p.0 ∙ e));
 }
 

@@ -1,5 +1,5 @@
 //! Writes the text of a netlist to a file as it is printed.
-ghost use Rattle.std.specs.Prelude.{◌≡◌, ◌≢◌, ◌≤◌, ◌<◌, vec_len, OnOk, OnErr};
+ghost use Rattle.std.specs.Prelude.{◌≡◌, ◌≢◌, ◌≤◌, ◌<◌, [], vec_len, OnOk, OnErr};
 ghost use Rattle.ap_desk.specs.Causes.{HasCause};
 ghost use Rattle.ap_desk.specs.Files.{Becomes, BecomesFrontOrStays, Gains, GainsFront, Goes, IsFileName, Stands};
 ghost use Rattle.ap_net.specs.Text.{netlist_text};

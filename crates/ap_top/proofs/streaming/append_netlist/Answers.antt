@@ -1,4 +1,4 @@
-use Rattle.std.proofs.Common.{refl, ◌∙◌}
+use Rattle.std.proofs.Common.{◌<◌, length, arith, refl, ◌∙◌}
 use Rattle.std.proofs.lemmas.Result.{err_from_is_err_and}
 use Rattle.ap_top.proofs.Streamed.{fewer_left, streaming_done, streaming_failed, streaming_first, streaming_line, streaming_moved, streaming_stopped}
 use Rattle.ap_top.proofs.streaming.append_netlist.Goals as goal
@@ -18,8 +18,8 @@ loop-more-preserved g c = record {
 pub loop-more-smaller : goal.loop-more-smaller
 loop-more-smaller g c = rw c.loop-more-test.true (fewer_left _ _ _ _ _ c.in-Ok.ensures.ok)
 
-pub returns-else-next-clause-err : goal.returns-else-next-clause-err
-returns-else-next-clause-err g c = streaming_stopped _ _ _ _ _ _ _ c.loop-more.invariant.text
+pub returns-in_default-clause-err : goal.returns-in_default-clause-err
+returns-in_default-clause-err g c = streaming_stopped _ _ _ _ _ _ _ c.loop-more.invariant.text
 
 pub returns-in_err-flush-clause-err : goal.returns-in_err-flush-clause-err
 returns-in_err-flush-clause-err g c =
@@ -28,9 +28,9 @@ returns-in_err-flush-clause-err g c =
 
 pub returns-in_err-flush-2-clause-err : goal.returns-in_err-flush-2-clause-err
 returns-in_err-flush-2-clause-err g c =
-    let p = err_from_is_err_and c.from_residual-2.result c.from_residual-2.ensures.1 in
+    let p = err_from_is_err_and c.from_residual-in_err-flush-2.result c.from_residual-in_err-flush-2.ensures.1 in
     rw p.1 (streaming_failed _ _ _ _ _ _ _ _ c.loop-more.invariant.text c.in_err-flush-2.ensures.err)
 
 pub returns-clause-ok : goal.returns-clause-ok
 returns-clause-ok g c =
-    streaming_done _ _ _ _ _ _ (streaming_moved _ _ _ _ _ _ _ _ _ (rw c.loop-more-test.false at c.loop-more.invariant.text) c.in_ok-flush-2.ensures.ok) c.in_ok-flush-2.ensures.few c.requires.there
+    streaming_done _ _ _ _ _ _ (streaming_moved _ _ _ _ _ _ _ _ _ (rw c.loop-more-test.false at c.loop-more.invariant.text) c.in_ok-flush-2.ensures.ok) (let kept = (c.flush-2.new.held).ok in let few = c.in_ok-flush-2.ensures.few in let none : length (c.flush-2.new.held).items < 1 = omega (arith, kept, few) in none) c.requires.there
