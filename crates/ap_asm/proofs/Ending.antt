@@ -1,16 +1,18 @@
 -- A program at its places, by the definitions of places and of least starts.
-use Rattle.std.proofs.Common.{◌≡◌, ℕ, suc, ◌+◌, ◌<◌, ◌≤◌, true, List, length, Contains, Option, Some, None, is_some, refl, sym, ap, subst, ◌∙◌, arith, ⊎_elim}
-use Rattle.std.specs.Prelude.{IfSome, IsTrue, slice_index}
+use Rattle.std.proofs.Common.{◌≡◌, ℕ, suc, ◌+◌, ◌<◌, ◌≤◌, List, length, Contains, Option, Some, None, is_some, refl, sym, ap, subst, ◌∙◌, arith, ⊎_elim}
+use Rattle.std.specs.Prelude.{IfSome, slice_index}
 use Rattle.std.proofs.lemmas.Bool.{cases_lt}
 use Rattle.std.proofs.lemmas.List.{get_or_past}
 use Rattle.ap_desc.specs.Clean.{IsClean}
 use Rattle.ap_desc.specs.declared.design.Design.{Design}
 use Rattle.ap_dist.specs.LeastStarts.{AreLeastStarts, MayStart, drain_of}
-use Rattle.ap_dist.specs.Places.{ArePlaces, IsPlainNop, IsWordOfLine, end_before, has_line, line_at}
+use Rattle.ap_dist.specs.Places.{ArePlaces, IsPlainNop, IsWordOfLine, end_before, line_at}
 use Rattle.ap_dist.specs.Spaced.{IsSpaced, word_at}
 use Rattle.ap_dist.specs.declared.source.Source.{Source}
 use Rattle.ap_dist.specs.declared.source.SourceLine.{SourceLine}
+use Rattle.ap_image.specs.FitsShape.{MemsFit, WordsFit}
 use Rattle.ap_image.specs.declared.image.Image.{Image}
+use Rattle.ap_model.specs.DesignShape.{shape_of}
 use Rattle.ap_program.specs.Fits.{SourceFits}
 use Rattle.ap_asm.specs.Assembled.{IsAssembled}
 use Rattle.ap_asm.specs.Conflicts.{AreSlotsApart}
@@ -20,7 +22,8 @@ use Rattle.ap_asm.specs.Listings.{listing_text}
 use Rattle.ap_asm.specs.Standing.{AreEnds, ArePicked, AreRising, HoldsGroups}
 use Rattle.ap_asm.specs.Words.{AreAddresses}
 use Rattle.ap_asm.specs.declared.assembling.Assembled.{Assembled}
-use Rattle.ap_asm.proofs.GroupLines.{ends_grow}
+use Rattle.ap_asm.proofs.FittingImages.{code_fits}
+use Rattle.ap_asm.proofs.GroupLines.{ends_grow, there}
 use Rattle.ap_asm.proofs.Placement.{IsPlacement, word_distance, word_here, word_of_line, word_out}
 use Rattle.ap_asm.proofs.Sizes.{enough_places, room_ends, room_low, some_stages}
 use Rattle.ap_asm.proofs.Spacing.{is_spaced}
@@ -93,17 +96,6 @@ are_places design source starts ends landings image p picked mems = record {
 
 -- The starts.
 
-record IsLine (source : Source) (g i : ℕ) : Type 0 where
-  line : SourceLine
-  is_line : line_at source g i ≡ Some line
-
-there : (source : Source) (g i : ℕ) → IsTrue (has_line source g i) → IsLine source g i
-there source g i is = by (line_at source g i) refl is
-  where
-    by : (o : Option SourceLine) → line_at source g i ≡ o → is_some o ≡ true → IsLine source g i
-    by None e h = absurd cc
-    by (Some line) e h = record { line = line; is_line = e }
-
 may_start : (design : Design) (source : Source) (starts ends : List ℕ) (image : Image) → IsPlacement design source starts ends image → (drain g place : ℕ) → MayStand design source starts drain g place → MayStart design source starts image drain g place
 may_start design source starts ends image p drain g place may = record {
   behind = may.behind;
@@ -145,13 +137,17 @@ are_least design source starts ends image drain p e = subst (AreLeastStarts desi
 -- All of it.
 
 pub is_assembled : (design : Design) (source : Source) (starts ends landings code : List ℕ) (drain : ℕ) (made : Assembled) → IsClean design → SourceFits design source → AreSlotsApart design source → AreStarts design source (length source.groups) starts
-    → AreEnds design source starts (length source.groups) ends → ArePicked design source ends (length ends) landings → HoldsGroups design source starts ends (length source.groups) code → drain ≡ drain_of design source
+    → AreEnds design source starts (length source.groups) ends → ArePicked design source ends (length ends) landings → HoldsGroups design source starts ends (length source.groups) code → MemsFit source.mems (shape_of design).mems → drain ≡ drain_of design source
     → made.image.code ≡ code → made.image.mems ≡ source.mems → made.starts ≡ starts → made.landings ≡ landings → made.drain ≡ drain → made.placed ≡ slice_index ends (length source.groups)
     → made.listing ≡ listing_text design drain landings (slice_index ends (length source.groups)) code → IsAssembled design source made
-is_assembled design source starts ends landings code drain made clean fits apart known ended picked held of_program is_code is_mems is_starts is_landings is_drain is_placed is_listing = record {
+is_assembled design source starts ends landings code drain made clean fits apart known ended picked held mems of_program is_code is_mems is_starts is_landings is_drain is_placed is_listing = record {
   places = subst (λ s. ArePlaces design source s made.image made.landings) (sym is_starts) (subst (ArePlaces design source starts made.image) (sym is_landings) (are_places design source starts ends landings made.image p picked is_mems));
   least = subst (λ s. AreLeastStarts design source s made.image made.drain) (sym is_starts) (are_least design source starts ends made.image made.drain p (is_drain ∙ of_program));
   spaced = subst (λ l. IsSpaced design made.image l made.drain) (sym is_landings) (is_spaced design source starts ends landings made.image made.drain p apart (subst (λ n. ArePicked design source ends n landings) ended.size picked) (is_drain ∙ of_program));
+  fits = record {
+    code = subst (λ ws. WordsFit ws design.address design.word) (sym is_code) (code_fits design clean source starts ends code held);
+    mems = subst (λ ms. MemsFit ms (shape_of design).mems) (sym is_mems) mems;
+  };
   size = ap length is_code ∙ held.size;
   placed = is_placed ∙ ended.each (length source.groups) (omega arith) ∙ sym (ap (λ s. end_before design source s (length s)) is_starts ∙ ap (end_before design source starts) known.size);
   listing = is_listing ∙ sym (ap (λ d. listing_text design d made.landings made.placed made.image.code) is_drain ∙ ap (λ l. listing_text design drain l made.placed made.image.code) is_landings

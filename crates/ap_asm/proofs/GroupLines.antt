@@ -1,12 +1,12 @@
 -- The lines of a program's groups, and where groups end.
-use Rattle.std.proofs.Common.{◌≡◌, ℕ, zero, suc, ◌+◌, ◌<◌, ◌≤◌, Bool, true, false, List, length, Option, Some, None, refl, sym, ap, subst, ◌∙◌, arith, ⊎_elim}
-use Rattle.std.specs.Prelude.{if◌then◌else◌, option_and_then, slice_get, slice_index}
+use Rattle.std.proofs.Common.{◌≡◌, ℕ, zero, suc, ◌+◌, ◌<◌, ◌≤◌, Bool, true, false, List, length, Option, Some, None, is_some, refl, sym, ap, subst, ◌∙◌, arith, ⊎_elim}
+use Rattle.std.specs.Prelude.{IsTrue, if◌then◌else◌, option_and_then, slice_get, slice_index}
 use Rattle.std.specs.Option.{option_map_or}
 use Rattle.std.proofs.lemmas.Bool.{cases_lt}
 use Rattle.std.proofs.lemmas.Option.{same_Some, slice_get_within}
 use Rattle.ap_desc.specs.declared.design.Design.{Design}
 use Rattle.ap_dist.specs.LeastStarts.{drain_of}
-use Rattle.ap_dist.specs.Places.{does_transfer, end_before, group_length, line_at, lines_of_group}
+use Rattle.ap_dist.specs.Places.{does_transfer, end_before, group_length, has_line, line_at, lines_of_group}
 use Rattle.ap_dist.specs.declared.source.Group.{Group}
 use Rattle.ap_dist.specs.declared.source.Source.{Source}
 use Rattle.ap_dist.specs.declared.source.SourceLine.{SourceLine}
@@ -34,6 +34,18 @@ line_from source g i x line is there = ap (λ o. option_and_then (λ (y : Group)
 -- the same line of the same group
 pub line_in : (source : Source) (g i : ℕ) (x : Group) (line : SourceLine) → slice_get source.groups g ≡ Some x → line_at source g i ≡ Some line → slice_get (lines_of_group x) i ≡ Some line
 line_in source g i x line is e = sym (ap (λ o. option_and_then (λ (y : Group). slice_get (lines_of_group y) i) o) is) ∙ e
+
+-- the line at a place that has one
+pub record IsLine (source : Source) (g i : ℕ) : Type 0 where
+  pub line : SourceLine
+  pub is_line : line_at source g i ≡ Some line
+
+pub there : (source : Source) (g i : ℕ) → IsTrue (has_line source g i) → IsLine source g i
+there source g i is = by (line_at source g i) refl is
+  where
+    by : (o : Option SourceLine) → line_at source g i ≡ o → is_some o ≡ true → IsLine source g i
+    by None e h = absurd cc
+    by (Some line) e h = record { line = line; is_line = e }
 
 pub group_fits : (design : Design) (source : Source) → SourceFits design source → (g : ℕ) (x : Group) → slice_get source.groups g ≡ Some x → GroupFits design (length source.groups) x
 group_fits design source fits g x at = each_here (GroupFits design (length source.groups)) source.groups fits.groups g x at

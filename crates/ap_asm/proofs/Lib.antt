@@ -2,8 +2,10 @@ pub mod Behinds
 pub mod Besides
 pub mod Codes
 pub mod Conflicted
+pub mod DesignShapes
 pub mod Drains
 pub mod Ending
+pub mod FittingImages
 pub mod FittingWords
 pub mod FixedFields
 pub mod GroupLines

@@ -1,13 +1,13 @@
 -- The word of NOP with 0 for each operand.
-use Rattle.std.proofs.Common.{◌≡◌, ℕ, zero, suc, ◌<◌, ◌||◌, not, Bool, true, false, List, [], ◌∷◌, length, map, replicate, Some, None, refl, sym, ap, subst, ◌∙◌, arith, ⊎_elim}
+use Rattle.std.proofs.Common.{◌≡◌, ℕ, zero, suc, true, List, [], ◌∷◌, length, map, replicate, Some, None, refl, sym, ap, subst, ◌∙◌, arith, ⊎_elim}
 use Rattle.std.specs.Prelude.{IsTrue, codes, option_map, position, slice_get, zip}
-use Rattle.std.specs.List.{AllByRecursion as Each, list_any}
+use Rattle.std.specs.List.{AllByRecursion as Each}
 use Rattle.std.specs.Option.{option_map_or}
 use Rattle.std.specs.Str.{bytes_eq}
 use Rattle.std.proofs.lemmas.Bool.{and_parts, cases_lt}
 use Rattle.std.proofs.lemmas.List.{length-replicate}
 use Rattle.std.proofs.lemmas.Nat.{pow_pos}
-use Rattle.std.proofs.lemmas.Option.{same_Some, slice_get-map}
+use Rattle.std.proofs.lemmas.Option.{slice_get-map}
 use Rattle.std.proofs.lemmas.Slice.Eq.{bytes_eq-Decides}
 use Rattle.ap_desc.specs.Clean.{IsClean}
 use Rattle.ap_desc.specs.Designs.{is_named_nop}
@@ -23,32 +23,9 @@ use Rattle.ap_enc.proofs.Places.{and_some, first_at, none_at}
 use Rattle.ap_program.specs.Fits.{LineFits, OperandFits}
 use Rattle.ap_program.specs.LineFaults.{free_places}
 use Rattle.ap_program.specs.declared.operands.FreeField.{FreeField}
+use Rattle.ap_program.proofs.DistinctNames.{distinct_at}
 use Rattle.ap_asm.specs.Words.{IsWordAmong, value_among}
 use Rattle.ap_asm.proofs.FittingWords.{same_count}
-
-any_at : {X : Type 0} (p : X → Bool) (xs : List X) (j : ℕ) (b : X) → slice_get xs j ≡ Some b → p b ≡ true → list_any p xs ≡ true
-any_at p [] j b at is = absurd cc
-any_at p (x ∷ xs) zero b at is = by (p x) (ap p (same_Some x b at) ∙ is)
-  where
-    by : (c : Bool) → c ≡ true → (c || list_any p xs) ≡ true
-    by true e = refl
-    by false e = absurd cc
-any_at p (x ∷ xs) (suc j) b at is = by (p x) (any_at p xs j b at is)
-  where
-    by : (c : Bool) → list_any p xs ≡ true → (c || list_any p xs) ≡ true
-    by true e = refl
-    by false e = e
-
--- a name stands once
-distinct_at : (names : List (List ℕ)) → are_distinct names ≡ true → (i j : ℕ) (a b : List ℕ) → i < j → slice_get names i ≡ Some a → slice_get names j ≡ Some b → bytes_eq a b ≡ true → ⊥
-distinct_at [] d i j a b lt at there same = absurd cc
-distinct_at (x ∷ names) d i zero a b lt at there same = absurd (omega arith)
-distinct_at (x ∷ names) d zero (suc j) a b lt at there same =
-    let parts = and_parts (not (list_any (bytes_eq x) names)) (are_distinct names) d in
-    let one = any_at (bytes_eq x) names j b there (ap (λ n. bytes_eq n b) (same_Some x a at) ∙ same) in
-    let none : not true ≡ true = ap not (sym one) ∙ parts.0 in
-    cc
-distinct_at (x ∷ names) d (suc i) (suc j) a b lt at there same = distinct_at names (and_parts (not (list_any (bytes_eq x) names)) (are_distinct names) d).1 i j a b (omega arith) at there same
 
 names_once : (design : Design) → IsClean design → are_distinct (map (λ (i : Instr). i.name) design.instrs) ≡ true
 names_once design clean = (and_parts _ (are_distinct (map (λ (i : Instr). i.name) design.instrs)) (and_parts _ _ clean.sound.once).0).1

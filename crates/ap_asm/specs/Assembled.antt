@@ -5,6 +5,8 @@ use Rattle.ap_dist.specs.LeastStarts.{AreLeastStarts}
 use Rattle.ap_dist.specs.Places.{ArePlaces, end_before}
 use Rattle.ap_dist.specs.Spaced.{IsSpaced}
 use Rattle.ap_dist.specs.declared.source.Source.{Source}
+use Rattle.ap_image.specs.FitsShape.{ImageFitsShape}
+use Rattle.ap_model.specs.DesignShape.{shape_of}
 use Rattle.ap_asm.specs.Listings.{listing_text}
 use Rattle.ap_asm.specs.declared.assembling.Assembled.{Assembled}
 
@@ -13,6 +15,7 @@ pub record IsAssembled (design : Design) (source : Source) (made : Assembled) : 
   pub places : ArePlaces design source made.starts made.image made.landings
   pub least : AreLeastStarts design source made.starts made.image made.drain
   pub spaced : IsSpaced design made.image made.landings made.drain
+  pub fits : ImageFitsShape made.image (shape_of design)
   pub size : length made.image.code ≡ 2 ^ design.address
   pub placed : made.placed ≡ end_before design source made.starts (length made.starts)
   pub listing : made.listing ≡ listing_text design made.drain made.landings made.placed made.image.code

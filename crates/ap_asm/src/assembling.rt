@@ -5,6 +5,8 @@ ghost use Rattle.ap_desc.specs.Clean.{IsClean};
 ghost use Rattle.ap_dist.specs.LeastStarts.{AreLeastStarts};
 ghost use Rattle.ap_dist.specs.Places.{ArePlaces, end_before};
 ghost use Rattle.ap_dist.specs.Spaced.{IsSpaced};
+ghost use Rattle.ap_image.specs.FitsShape.{ImageFitsShape, MemsFit};
+ghost use Rattle.ap_model.specs.DesignShape.{shape_of};
 ghost use Rattle.ap_asm.specs.AsmFaults.{IsAsmFault, IsFaultlessProgram};
 ghost use Rattle.ap_asm.specs.Assembled.{IsAssembled};
 ghost use Rattle.ap_asm.specs.Conflicts.{AreSlotsApart};
@@ -104,6 +106,7 @@ fn place(
 ) -> Result<Assembled, NoMemory>
     requires clean { IsClean design.now }
     requires layout { IsLayout design.now layout }
+    requires mems { MemsFit layout.source.mems (shape_of design.now).mems }
     requires apart { AreSlotsApart design.now layout.source }
     requires starts { AreStarts design.now layout.source (length layout.source.groups) starts.now }
     ensures { IfOk result (IsAssembled design.now layout.source) }
@@ -144,6 +147,7 @@ pub fn assemble(alloc: Global, design: &Design, text: &[u8]) -> Result<Assembled
     ensures least { IfOk result (λ made. AreLeastStarts design.now
         (source_of design.now (program_of text.now)) made.starts made.image made.drain) }
     ensures spaced { IfOk result (λ made. IsSpaced design.now made.image made.landings made.drain) }
+    ensures fits { IfOk result (λ made. ImageFitsShape made.image (shape_of design.now)) }
     ensures size { IfOk result (λ made. length made.image.code ≡ 2 ^ design.now.address) }
     ensures placed { IfOk result (λ made. made.placed
         ≡ end_before design.now (source_of design.now (program_of text.now)) made.starts

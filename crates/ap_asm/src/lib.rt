@@ -9,8 +9,10 @@ mod assembling;
 mod encoding;
 mod listing;
 mod placing;
+mod shaping;
 mod slots;
 mod words;
 
 pub use ap_program::{AsmFault, AsmKind};
 pub use assembling::{Assembled, assemble};
+pub use shaping::shape_of;

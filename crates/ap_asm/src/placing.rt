@@ -95,8 +95,8 @@ fn reads_link_here(act: Act) -> bool
 
 /// Whether a line of the instruction reads the address behind its slots.
 fn reads_link_in(instr: &Instr) -> bool
-    ensures { result
-        ≡ list_any (λ (m : DeclaredMicro). list_any places.is_link (operands_of m.act)) instr.now.micros }
+    ensures { let reads = λ (m : DeclaredMicro). list_any places.is_link (operands_of m.act) in
+        result ≡ list_any reads instr.now.micros }
 {
     instr
         .micros

@@ -1,6 +1,8 @@
 pub mod CallFaults
 pub mod CountedLines
 pub mod DataFaults
+pub mod DataFits
+pub mod DistinctNames
 pub mod FaultyLines
 pub mod FieldEnds
 pub mod FieldWidths

@@ -1,7 +1,9 @@
 //! Reads programs.
 ghost use Rattle.std.specs.Prelude.{◌≡◌, ◌≤◌, IfErr, IfOk, length};
 ghost use Rattle.ap_desc.specs.Clean.{IsClean};
+ghost use Rattle.ap_image.specs.FitsShape.{MemsFit};
 ghost use Rattle.ap_image.specs.TextFaults.{text_limit};
+ghost use Rattle.ap_model.specs.DesignShape.{shape_of};
 ghost use Rattle.ap_program.specs.AsmKinds.{IsFaultOf};
 ghost use Rattle.ap_program.specs.Fits.{SourceFits};
 ghost use Rattle.ap_program.specs.LineFaults.{AreFaultless, HasLineFault, HasTextFault};
@@ -37,6 +39,8 @@ fn read_short(alloc: Global, design: &Design, text: &[u8]) -> Result<Program, As
         program.source ≡ source_of design.now (program_of text.now)) }
     ensures numbers { IfOk result (λ program. program.numbers ≡ numbers_of (program_of text.now)) }
     ensures fits { IfOk result (λ program. SourceFits design.now program.source) }
+    ensures mems { IfOk result (λ program.
+        MemsFit program.source.mems (shape_of design.now).mems) }
     ensures refused { IfErr result (IsFaultOf (HasLineFault design.now (program_of text.now))) }
 {
     let lines = read_lines(alloc, text)?;
@@ -63,6 +67,8 @@ pub fn read_program(alloc: Global, design: &Design, text: &[u8]) -> Result<Progr
         program.source ≡ source_of design.now (program_of text.now)) }
     ensures numbers { IfOk result (λ program. program.numbers ≡ numbers_of (program_of text.now)) }
     ensures fits { IfOk result (λ program. SourceFits design.now program.source) }
+    ensures mems { IfOk result (λ program.
+        MemsFit program.source.mems (shape_of design.now).mems) }
     ensures refused { IfErr result (IsFaultOf (HasTextFault design.now text.now)) }
 {
     if text.len() > TEXT_LIMIT {

@@ -1,6 +1,6 @@
 -- What the desk's counts say of a part of a call, by the answers of the desk's calls in it.
 use Rattle.std.proofs.Common.{◌≡◌, ℕ, ◌≤◌, List, [], Option, Some, None, Result, Err, refl, sym, ap, subst, ◌∙◌, arith, inl, inr, ⊎_elim}
-use Rattle.std.specs.Prelude.{IfSome, ◌⊎◌}
+use Rattle.std.specs.Prelude.{IfSome}
 use Rattle.std.specs.FinMap.{get}
 use Rattle.ap_bits.specs.declared.card.Card.{Card}
 use Rattle.ap_desk.specs.declared.counts.Counts.{Counts}
@@ -8,18 +8,21 @@ use Rattle.ap_desk.specs.declared.desk.DeskFault.{DeskFault}
 use Rattle.ap_desk.specs.declared.desk.DeskFault.TheVariants.{Failed, Missing, NoMemory}
 use Rattle.ap_desk.specs.Causes.{HasCause, Rose}
 use Rattle.ap_desk.specs.Files.{Files}
+use Rattle.ap_program.specs.declared.fault.AsmFault.{AsmFault}
+use Rattle.ap_program.specs.declared.fault.AsmFault.TheVariants as asm
 use Rattle.ap_top.specs.declared.command.Command.{Command}
 use Rattle.ap_top.specs.declared.form.ReadFault.{ReadFault}
 use Rattle.ap_top.specs.declared.form.ReadFault.TheVariants as reading
 use Rattle.ap_top.specs.declared.refusal.Stop.{Stop}
-use Rattle.ap_top.specs.declared.refusal.Stop.TheVariants.{Refused, Broken}
+use Rattle.ap_top.specs.declared.refusal.Stop.TheVariants.{Broken}
 use Rattle.ap_top.specs.declared.refusal.Trouble.{Trouble}
 use Rattle.ap_top.specs.declared.refusal.Trouble.TheVariants.{Desk, Memory}
+use Rattle.ap_top.specs.Assembly.{FailsAt}
 use Rattle.ap_top.specs.Calls.{Call}
 use Rattle.ap_top.specs.Commands.{IsCall}
 use Rattle.ap_top.specs.Generate.{gen_sources}
 use Rattle.ap_top.specs.Inputs.{FailsOn, HasFailed, LacksOne, Source, inputs_of}
-use Rattle.ap_top.specs.Refusals.{IsOrMemory, stop_of, trouble_of, trouble_status}
+use Rattle.ap_top.specs.Refusals.{IsOrMemory, stop_of, stop_of_program, trouble_of, trouble_status}
 use Rattle.ap_top.specs.Troubles.{HasFaulted, IsCaused, desk_stop}
 
 -- no count changed
@@ -44,6 +47,29 @@ reading_gave_up cards told name before after Missing h none =
     record { faults_stay = omega arith; absent_stays = h.0.stays; desk = λ _. inr (h.0.rose, lacks cards told name (none refl)); quiet = λ other. absurd (other refl) }
 reading_gave_up cards told name before after NoMemory h none = kept desk_stop (FailsOn cards (gen_sources name) told) before after (Err (Broken Memory)) h (λ e. cc)
 
+-- reading an input gave up
+pub reading_failed : {T U : Type 0} (told : Option Files) (name : List ℕ) (before after : Counts) (fault : DeskFault) → HasCause {T = U} before after (Err fault)
+    → (◌≡◌ {A = Result U DeskFault} (Err fault) (Err Missing) → IfSome told (λ files. get files name ≡ None)) → IsCaused {T = T} desk_stop (FailsAt name told) before after (Err (Broken (trouble_of fault)))
+reading_failed told name before after Failed h none =
+    let absent = h.1 in
+    record { faults_stay = h.0.stays; absent_stays = omega arith; desk = λ _. inl h.0.rose; quiet = λ other. absurd (other refl) }
+reading_failed told name before after Missing h none =
+    let faults = h.1 in
+    record { faults_stay = omega arith; absent_stays = h.0.stays; desk = λ _. inr (h.0.rose, none refl); quiet = λ other. absurd (other refl) }
+reading_failed told name before after NoMemory h none = kept desk_stop (FailsAt name told) before after (Err (Broken Memory)) h (λ e. cc)
+
+-- what stopped a part of the work stops the whole
+pub stop_cause : {T U : Type 0} (cause other : Counts → Counts → Type 0) (before mid after : Counts) (stop : Stop) → mid ≡ before → (cause before after → other before after) → IsCaused {T = U} desk_stop cause mid after (Err stop) → IsCaused {T = T} desk_stop other before after (Err stop)
+stop_cause {T = T} {U = U} cause other before mid after stop same more h = by (subst (λ (k : Counts). IsCaused {T = U} desk_stop cause k after (Err stop)) same h)
+  where
+    by : IsCaused {T = U} desk_stop cause before after (Err stop) → IsCaused {T = T} desk_stop other before after (Err stop)
+    by k = record {
+      faults_stay = k.faults_stay;
+      absent_stays = k.absent_stays;
+      desk = λ e. more (k.desk (let is : stop ≡ desk_stop = cc in ap (λ (s : Stop). Err s) is));
+      quiet = λ differs. k.quiet (λ e. differs (let is : stop ≡ desk_stop = cc in ap (λ (s : Stop). Err s) is));
+    }
+
 -- writing gave up
 writing_by : {T U : Type 0} (cards : List Card) (sources : List Source) (told : Option Files) (before after : Counts) (fault : DeskFault) → HasCause {T = U} before after (Err fault)
     → (◌≡◌ {A = Result U DeskFault} (Err fault) (Err Missing) → ⊥) → IsCaused {T = T} desk_stop (FailsOn cards sources told) before after (Err (Broken (trouble_of fault)))
@@ -61,6 +87,10 @@ writing_gave_up {T = T} {U = U} cards sources told before mid after fault e h ot
 pub judging_never : {T : Type 0} (fault : ReadFault) → ◌≡◌ {A = Result T Stop} (Err (stop_of fault)) (Err desk_stop) → ⊥
 judging_never (reading.Refused judged) e = cc
 judging_never reading.NoMemory e = cc
+
+pub assembling_never : {T : Type 0} (fault : AsmFault) → ◌≡◌ {A = Result T Stop} (Err (stop_of_program fault)) (Err desk_stop) → ⊥
+assembling_never (asm.At line kind) e = cc
+assembling_never asm.NoMemory e = cc
 
 -- the work that the words ask for gave up as the work on their inputs did
 pub asked_cause : {T : Type 0} (call : Call) (command : Command) (sources : List Source) (before after : Counts) (result : Result T Stop) → IsCall command call.words → inputs_of command call.words ≡ sources

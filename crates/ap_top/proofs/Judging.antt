@@ -11,7 +11,6 @@ use Rattle.ap_desc.specs.Limits.{description_limit}
 use Rattle.ap_desc.specs.Meaning.{IsAccepted}
 use Rattle.ap_desk.specs.Files.{Becomes, BecomesFrontOrStays, Files, Goes, ReadsUpTo, content}
 use Rattle.ap_top.specs.declared.command.Command.{Command}
-use Rattle.ap_top.specs.declared.command.Command.TheVariants.{Gen}
 use Rattle.ap_top.specs.declared.command.Input.{Input}
 use Rattle.ap_top.specs.declared.command.Input.TheVariants as input
 use Rattle.ap_top.specs.declared.form.Form.{Form}
@@ -20,9 +19,10 @@ use Rattle.ap_top.specs.declared.form.Judged.TheVariants as judged
 use Rattle.ap_top.specs.declared.form.ReadFault.{ReadFault}
 use Rattle.ap_top.specs.declared.form.ReadFault.TheVariants as reading
 use Rattle.ap_top.specs.declared.refusal.Refusal.{Refusal}
-use Rattle.ap_top.specs.declared.refusal.Refusal.TheVariants.{Usage, Description}
+use Rattle.ap_top.specs.declared.refusal.Refusal.TheVariants.{Usage, Description, Program}
 use Rattle.ap_top.specs.Additions.{Operation, IsAddition}
 use Rattle.ap_top.specs.Calls.{Call}
+use Rattle.ap_top.specs.Commands.{IsCall}
 use Rattle.ap_top.specs.DesignText.{IsDesignText}
 use Rattle.ap_top.specs.Endings.{IsAnswer, IsDone}
 use Rattle.ap_top.specs.Form.{AreLines, HasAddition, HasJudgedFault, IsFormDescription, IsForm, IsLine, IsNotBuiltAt, HasReadFault, DueToken, first_form}
@@ -32,6 +32,8 @@ use Rattle.ap_top.specs.Inputs.{AreGood, AreInputsGood, AsksRefusal, HasGoodInpu
 use Rattle.ap_top.specs.Outputs.{Target, FromGood, IsBegunOn, Writes}
 use Rattle.ap_top.specs.Refusals.{IsOrMemory, refusal_status, stop_of}
 use Rattle.ap_top.specs.Troubles.{StopsOn}
+use Rattle.ap_top.proofs.Calls.{one_command}
+use Rattle.ap_top.proofs.Designs.{program_not_refused}
 use Rattle.ap_top.proofs.Matching.{lengths_of}
 use Rattle.ap_top.proofs.TextFaults.{form_alone, form_first}
 
@@ -55,8 +57,22 @@ module _ (cards : List Card) where
   good_not_refused text form (judged.NotBuilt line) good fault = built (lines_of text) form line good.first.lines good.first.ranges good.unit fault.1
 
   input_not_refused : (before : List (List ℕ)) (kind : Input) (text : List ℕ) (refusal : Refusal) → inputs.IsFaultless cards before kind text → IsRefused cards before kind text refusal → ⊥
-  input_not_refused before input.Description text Usage good refused = refused
   input_not_refused before input.Description text (Description judged) good refused = good_not_refused text good.0 judged good.1 refused
+  input_not_refused before input.Processor text (Description (judged.Refused least)) good refused = good least.kind least.line refused.holds.holds
+  input_not_refused before input.Program text (Program line kind) good refused = program_not_refused cards before text line kind good refused
+  input_not_refused before kind text refusal good refused = refused
+
+  -- an input is refused with one status
+  abbrev status_of : Input → ℕ
+  status_of input.Description = 2
+  status_of input.Processor = 2
+  status_of input.Program = 3
+
+  refused_status : (before : List (List ℕ)) (kind : Input) (text : List ℕ) (refusal : Refusal) → IsRefused cards before kind text refusal → refusal_status refusal ≡ status_of kind
+  refused_status before input.Description text (Description judged) refused = refl
+  refused_status before input.Processor text (Description (judged.Refused least)) refused = refl
+  refused_status before input.Program text (Program line kind) refused = refl
+  refused_status before kind text refusal refused = absurd refused
 
   -- nor are inputs that are all good
   none_refused : (files : Files) (before : List (List ℕ)) (sources : List Source) (refusal : Refusal) → AreGood cards files before sources → RefusesOne cards files before sources refusal → ⊥
@@ -66,20 +82,41 @@ module _ (cards : List Card) where
       (λ later. none_refused files (with_text files before source) sources refusal good.1 later.1)
       refused
 
-  good_command : (words : List (List ℕ)) (files : Files) (command other : Command) (judged : Judged) → AreGood cards files [] (inputs_of command words) → RefusesOne cards files [] (inputs_of other words) (Description judged) → ⊥
-  good_command words files Gen Gen judged good refused = none_refused files [] (inputs_of Gen words) (Description judged) good refused
+  -- and inputs that are refused are so with one status
+  one_status : (files : Files) (before : List (List ℕ)) (sources : List Source) (one other : Refusal) → RefusesOne cards files before sources one → RefusesOne cards files before sources other → refusal_status one ≡ refusal_status other
+  one_status files before [] one other h g = absurd h
+  one_status files before (source ∷ sources) one other (inl h) (inl g) = refused_status before source.0 (content files source.1) one h.1 ∙ sym (refused_status before source.0 (content files source.1) other g.1)
+  one_status files before (source ∷ sources) one other (inl h) (inr g) = absurd (input_not_refused before source.0 (content files source.1) one g.0.faultless h.1)
+  one_status files before (source ∷ sources) one other (inr h) (inl g) = absurd (input_not_refused before source.0 (content files source.1) other h.0.faultless g.1)
+  one_status files before (source ∷ sources) one other (inr h) (inr g) = one_status files (with_text files before source) sources one other h.1 g.1
+
+  -- the words are one command
+  refused_as : (words : List (List ℕ)) (files : Files) (command other : Command) (refusal : Refusal) → IsCall command words → IsCall other words → RefusesOne cards files [] (inputs_of other words) refusal → RefusesOne cards files [] (inputs_of command words) refusal
+  refused_as words files command other refusal is is_other = subst (λ c. RefusesOne cards files [] (inputs_of c words) refusal) (one_command other command words is_other is)
+
+  good_command : (words : List (List ℕ)) (files : Files) (command other : Command) (refusal : Refusal) → IsCall command words → IsCall other words → AreGood cards files [] (inputs_of command words) → RefusesOne cards files [] (inputs_of other words) refusal → ⊥
+  good_command words files command other refusal is is_other good refused = none_refused files [] (inputs_of command words) refusal good (refused_as words files command other refusal is is_other refused)
 
   -- a good command isn't refused,
   good_not_due : (words : List (List ℕ)) (files : Files) (refusal : Refusal) → AreInputsGood cards words files → IsRefusalDue cards words (Some files) refusal → ⊥
   good_not_due words files Usage good due = due (good.0, good.1)
-  good_not_due words files (Description judged) good due = good_command words files good.0 due.0 judged good.2 due.2
+  good_not_due words files (Description judged) good due = good_command words files good.0 due.0 (Description judged) good.1 due.1 good.2 due.2
+  good_not_due words files (Program line kind) good due = good_command words files good.0 due.0 (Program line kind) good.1 due.1 good.2 due.2
+
+  command_status : (words : List (List ℕ)) (files : Files) (one other : Refusal) (command second : Command) → IsCall command words → IsCall second words → RefusesOne cards files [] (inputs_of command words) one → RefusesOne cards files [] (inputs_of second words) other → refusal_status one ≡ refusal_status other
+  command_status words files one other command second is is_other h g = one_status files [] (inputs_of command words) one other h (refused_as words files command second other is is_other g)
 
   -- and a command that is refused has one refusal's status
-  same_status : (words : List (List ℕ)) (told : Option Files) (one other : Refusal) → IsRefusalDue cards words told one → IsRefusalDue cards words told other → refusal_status one ≡ refusal_status other
-  same_status words told Usage Usage h g = refl
-  same_status words told Usage (Description judged) h g = absurd (h (g.0, g.1))
-  same_status words told (Description judged) Usage h g = absurd (g (h.0, h.1))
-  same_status words told (Description judged) (Description other) h g = refl
+  same_status : (words : List (List ℕ)) (files : Files) (one other : Refusal) → IsRefusalDue cards words (Some files) one → IsRefusalDue cards words (Some files) other → refusal_status one ≡ refusal_status other
+  same_status words files Usage Usage h g = refl
+  same_status words files Usage (Description judged) h g = absurd (h (g.0, g.1))
+  same_status words files Usage (Program line kind) h g = absurd (h (g.0, g.1))
+  same_status words files (Description judged) Usage h g = absurd (g (h.0, h.1))
+  same_status words files (Program line kind) Usage h g = absurd (g (h.0, h.1))
+  same_status words files (Description judged) (Description other) h g = command_status words files (Description judged) (Description other) h.0 g.0 h.1 g.1 h.2 g.2
+  same_status words files (Description judged) (Program line kind) h g = command_status words files (Description judged) (Program line kind) h.0 g.0 h.1 g.1 h.2 g.2
+  same_status words files (Program line kind) (Description judged) h g = command_status words files (Program line kind) (Description judged) h.0 g.0 h.1 g.1 h.2 g.2
+  same_status words files (Program line kind) (Program other more) h g = command_status words files (Program line kind) (Program other more) h.0 g.0 h.1 g.1 h.2 g.2
 
   done_good : (words : List (List ℕ)) (old new : Files) → IsDone cards words old new → AreInputsGood cards words old
   done_good words old new h = (h.0, h.1, h.2.0)
@@ -87,10 +124,10 @@ module _ (cards : List Card) where
   -- what is answered where a refusal is due
   pub answers_due : (words : List (List ℕ)) (status : ℕ) (told told' : Option Files) (refusal : Refusal) → let call : Call = record { cards = cards; words = words; told = told } in IsAnswer call status told' → AsksRefusal call refusal → IsOrMemory (refusal_status refusal) status
   answers_due words status None told' refusal answers due = absurd due
-  answers_due words status (Some files) None refusal answers due = ⊎_elim (λ done. absurd done.1.1) (λ refused. inl (refused.status_is ∙ same_status words (Some files) refused.refusal refusal refused.due due)) answers
+  answers_due words status (Some files) None refusal answers due = ⊎_elim (λ done. absurd done.1.1) (λ refused. inl (refused.status_is ∙ same_status words files refused.refusal refusal refused.due due)) answers
   answers_due words status (Some files) (Some new) refusal answers due = ⊎_elim
       (λ done. absurd (good_not_due words files refusal (done_good words files new done.1.1) due))
-      (λ refused. inl (refused.status_is ∙ same_status words (Some files) refused.refusal refusal refused.due due))
+      (λ refused. inl (refused.status_is ∙ same_status words files refused.refusal refusal refused.due due))
       answers
 
   -- and where the inputs are good
@@ -103,11 +140,11 @@ module _ (cards : List Card) where
   long_faults one other long long' f.TooLong line h = (h.0, long')
   long_faults one other long long' _ line h = let short = h.0 in absurd (omega arith)
 
-  long_never : (text : List ℕ) → description_limit < length text → IsAccepted text cards → ⊥
+  pub long_never : (text : List ℕ) → description_limit < length text → IsAccepted text cards → ⊥
   long_never text long none = none f.TooLong 0 (inl (refl, long))
 
   -- the bytes that were read are the file, or both are too long
-  read_same : (files : Files) (name bytes : List ℕ) → ReadsUpTo files name 1048576 bytes → (bytes ≡ content files name) ⊎ ((description_limit < length bytes) × (description_limit < length (content files name)))
+  pub read_same : (files : Files) (name bytes : List ℕ) → ReadsUpTo files name 1048576 bytes → (bytes ≡ content files name) ⊎ ((description_limit < length bytes) × (description_limit < length (content files name)))
   read_same files name bytes h = ⊎_elim (λ long. inr (h.longer.1 long, long)) (λ short. inl (h.whole short)) (cases_lt 1048576 (length (content files name)))
 
   long_refused : (one other : List ℕ) (judged : Judged) → description_limit < length one → description_limit < length other → HasJudgedFault cards one judged → HasJudgedFault cards other judged
@@ -120,13 +157,13 @@ module _ (cards : List Card) where
       })
   long_refused one other (judged.NotBuilt line) long long' h = absurd (long_never one long h.0)
 
-  file_refused : (files : Files) (name bytes : List ℕ) (judged : Judged) → ReadsUpTo files name 1048576 bytes → HasJudgedFault cards bytes judged → HasJudgedFault cards (content files name) judged
+  pub file_refused : (files : Files) (name bytes : List ℕ) (judged : Judged) → ReadsUpTo files name 1048576 bytes → HasJudgedFault cards bytes judged → HasJudgedFault cards (content files name) judged
   file_refused files name bytes judged h fault = ⊎_elim (λ e. subst (λ t. HasJudgedFault cards t judged) e fault) (λ long. long_refused bytes (content files name) judged long.0 long.1 fault) (read_same files name bytes h)
 
   file_good : (files : Files) (name bytes : List ℕ) (form : Form) → ReadsUpTo files name 1048576 bytes → IsFormDescription cards bytes form → IsFormDescription cards (content files name) form
   file_good files name bytes form h good = ⊎_elim (λ e. subst (λ t. IsFormDescription cards t form) e good) (λ long. absurd (long_never bytes long.0 good.faultless)) (read_same files name bytes h)
 
-  unchanged : (sources : List Source) (targets : List Target) (told told' : Option Files) → told' ≡ told → Goes (IsBegunOn cards sources targets) told told'
+  pub unchanged : (sources : List Source) (targets : List Target) (told told' : Option Files) → told' ≡ told → Goes (IsBegunOn cards sources targets) told told'
   unchanged sources targets told told' e = subst (λ (t : Option Files). Goes (IsBegunOn cards sources targets) told t) (sym e) (stayed told)
     where
       stayed : (told : Option Files) → Goes (IsBegunOn cards sources targets) told told

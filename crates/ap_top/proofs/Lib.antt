@@ -14,3 +14,5 @@ pub mod Sure
 pub mod TextFaults
 pub mod Additions
 pub mod Streamed
+pub mod Assembly
+pub mod Designs

@@ -1,10 +1,11 @@
-use Rattle.std.proofs.Common.{ℕ, List, [], ◌∷◌, Some, ⊎_elim, arith}
+use Rattle.std.proofs.Common.{subst, ℕ, List, [], ◌∷◌, Some, ⊎_elim, arith}
 use Rattle.ap_bits.specs.declared.card.Card.{Card}
 use Rattle.ap_desk.specs.Files.{Files}
 use Rattle.ap_desk.specs.declared.counts.Counts.{Counts}
 use Rattle.ap_desk.specs.Causes.{Rose}
 use Rattle.ap_top.specs.declared.command.Command.{Command}
-use Rattle.ap_top.specs.declared.command.Command.TheVariants.{Gen}
+use Rattle.ap_top.proofs.Calls.{one_command}
+use Rattle.ap_top.specs.Commands.{IsCall}
 use Rattle.ap_top.specs.Inputs.{Source, AreGood, AreInputsGood, LacksOne, FailsOn, HasFailed, inputs_of, with_text}
 
 -- the counts of a desk on which no call fails
@@ -27,7 +28,8 @@ module _ (cards : List Card) where
 
   -- on a desk without faults, a command with good inputs doesn't fail
   pub never_fails : (words : List (List ℕ)) (files : Files) (absent absent' : ℕ) → AreInputsGood cards words files → HasFailed (record { cards = cards; words = words; told = Some files }) (without_faults absent) (without_faults absent') → ⊥
-  never_fails words files absent absent' good failed = ⊎_elim stays_zero (λ h. same_command good.0 h.0 good.2 h.2) failed
+  never_fails words files absent absent' good failed = ⊎_elim stays_zero (λ h. same_command h.0 h.1 h.2) failed
     where
-      same_command : (command other : Command) → AreGood cards files [] (inputs_of command words) → FailsOn cards (inputs_of other words) (Some files) (without_faults absent) (without_faults absent') → ⊥
-      same_command Gen Gen good failed = fails_not files (inputs_of Gen words) absent absent' good failed
+      same_command : (other : Command) → IsCall other words → FailsOn cards (inputs_of other words) (Some files) (without_faults absent) (without_faults absent') → ⊥
+      same_command other is fails =
+          fails_not files (inputs_of good.0 words) absent absent' good.2 (subst (λ c. FailsOn cards (inputs_of c words) (Some files) (without_faults absent) (without_faults absent')) (one_command other good.0 words is good.1) fails)

@@ -2,20 +2,22 @@
 use Rattle.std.specs.Prelude.{◌≡◌, ℕ, List, [], ◌∷◌, length, codes}
 use Rattle.std.specs.List.{AllByRecursion as Each, zip}
 use Rattle.ap_desk.specs.Files.{IsFileName}
-use Rattle.ap_top.specs.declared.command.Input.TheVariants.{Description}
-use Rattle.ap_top.specs.declared.command.Output.TheVariants.{Verilog}
+use Rattle.ap_top.specs.declared.command.Input.TheVariants.{Description, Processor, Program}
+use Rattle.ap_top.specs.declared.command.Output.TheVariants.{Image, Listing, Verilog}
 use Rattle.ap_top.specs.declared.command.Slot.{Slot}
 use Rattle.ap_top.specs.declared.command.Slot.TheVariants as slot
 use Rattle.ap_top.specs.declared.command.Command.{Command}
-use Rattle.ap_top.specs.declared.command.Command.TheVariants.{Gen}
+use Rattle.ap_top.specs.declared.command.Command.TheVariants.{Asm, Gen}
 
 -- the word that a command begins with
 abbrev pub name_of : Command → List ℕ
 name_of Gen = codes "gen"
+name_of Asm = codes "asm"
 
 -- what each word after the name stands for
 abbrev pub slots_of : Command → List Slot
 slots_of Gen = slot.Input Description ∷ slot.Output Verilog ∷ []
+slots_of Asm = slot.Input Processor ∷ slot.Input Program ∷ slot.Output Image ∷ slot.Output Listing ∷ []
 
 -- the word names a file that is read
 abbrev pub IsInput : Slot → Type 0

@@ -3,6 +3,7 @@
 use Rattle.std.specs.Prelude.{◌≡◌, ◌⊎◌, ℕ, List, [], ◌∷◌, ◌++◌, drop, Option, None, Some, IfSome, IsSomeAnd}
 use Rattle.std.specs.FinMap.{get}
 use Rattle.ap_bits.specs.declared.card.Card.{Card}
+use Rattle.ap_desc.specs.Meaning.{IsAccepted, IsLeastFault}
 use Rattle.ap_desk.specs.Files.{Files, content}
 use Rattle.ap_desk.specs.declared.counts.Counts.{Counts}
 use Rattle.ap_desk.specs.Causes.{Rose}
@@ -11,11 +12,13 @@ use Rattle.ap_top.specs.declared.command.Input.TheVariants as input
 use Rattle.ap_top.specs.declared.command.Slot.TheVariants as slot
 use Rattle.ap_top.specs.declared.command.Command.{Command}
 use Rattle.ap_top.specs.declared.form.Form.{Form}
+use Rattle.ap_top.specs.declared.form.Judged.TheVariants as judged
 use Rattle.ap_top.specs.declared.refusal.Refusal.{Refusal}
 use Rattle.ap_top.specs.declared.refusal.Refusal.TheVariants as refusal
 use Rattle.ap_top.specs.Calls.{Call}
 use Rattle.ap_top.specs.Commands.{Operand, IsCall, IsCommand, operands_of}
 use Rattle.ap_top.specs.Form.{IsFormDescription, HasJudgedFault}
+use Rattle.ap_top.specs.Programs.{HasLeastFaultAfter, IsFaultlessAfter}
 
 -- an input: what its text holds, and the file's name
 abbrev pub Source : Type 0
@@ -33,11 +36,15 @@ inputs_of command words = inputs_in (operands_of command (drop 1 words))
 -- the text of an input has no fault; the texts of the inputs before it are given
 abbrev pub IsFaultless : List Card → List (List ℕ) → Input → List ℕ → Type 0
 IsFaultless cards before input.Description text = (form : Form) × IsFormDescription cards text form
+IsFaultless cards before input.Processor text = IsAccepted text cards
+IsFaultless cards before input.Program text = IsFaultlessAfter cards before text
 
--- the text of an input is refused so
+-- the text of an input is refused so; the texts of the inputs before it are given
 abbrev pub IsRefused : List Card → List (List ℕ) → Input → List ℕ → Refusal → Type 0
-IsRefused cards before input.Description text refusal.Usage = ⊥
 IsRefused cards before input.Description text (refusal.Description judged) = HasJudgedFault cards text judged
+IsRefused cards before input.Processor text (refusal.Description (judged.Refused least)) = IsLeastFault text cards least
+IsRefused cards before input.Program text (refusal.Program line kind) = HasLeastFaultAfter cards before text line kind
+IsRefused cards before kind text refusal = ⊥
 
 -- the file is there
 abbrev pub IsThere : Files → List ℕ → Type 0

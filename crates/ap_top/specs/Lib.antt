@@ -5,7 +5,9 @@ pub mod Form
 pub mod Found
 pub mod Machine
 pub mod Processor
+pub mod Programs
 pub mod FormUnit
+pub mod Assembly
 pub mod Base
 pub mod Circuits
 pub mod DesignText

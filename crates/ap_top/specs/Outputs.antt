@@ -1,10 +1,14 @@
 -- The outputs of a command: the text that each is to hold by the cards of the shelf, and what was written of them.
 use Rattle.std.specs.Prelude.{◌≡◌, ◌⊎◌, ℕ, List, [], ◌∷◌, drop, map, take}
 use Rattle.std.specs.FinMap.{insert}
+use Rattle.ap_asm.specs.declared.assembling.Assembled.{Assembled}
 use Rattle.ap_bits.specs.declared.card.Card.{Card}
+use Rattle.ap_desc.specs.declared.design.Design.{Design}
 use Rattle.ap_desk.specs.Files.{Files, content}
+use Rattle.ap_image.specs.ImageTexts.{image_text}
+use Rattle.ap_model.specs.DesignShape.{shape_of}
 use Rattle.ap_top.specs.declared.command.Output.{Output}
-use Rattle.ap_top.specs.declared.command.Output.TheVariants.{Verilog}
+use Rattle.ap_top.specs.declared.command.Output.TheVariants.{Image, Listing, Verilog}
 use Rattle.ap_top.specs.declared.command.Slot.TheVariants as slot
 use Rattle.ap_top.specs.declared.command.Command.{Command}
 use Rattle.ap_top.specs.declared.form.Form.{Form}
@@ -13,6 +17,7 @@ use Rattle.ap_top.specs.Commands.{Operand, operands_of}
 use Rattle.ap_top.specs.Form.{IsFormDescription}
 use Rattle.ap_top.specs.DesignText.{IsDesignText}
 use Rattle.ap_top.specs.Inputs.{Source, AreGood}
+use Rattle.ap_top.specs.Programs.{IsAssembledFor}
 
 -- an output: what its text is to hold, and the file's name
 abbrev pub Target : Type 0
@@ -29,9 +34,11 @@ outputs_of command words = outputs_in (operands_of command (drop 1 words))
 
 -- the text is one that the output may hold, by the texts of the inputs
 abbrev pub IsOutputText : List Card → Output → List (List ℕ) → List ℕ → Type 0
-IsOutputText cards Verilog [] text = ⊥
+IsOutputText cards Image (description ∷ program ∷ others) text = (design : Design) × (made : Assembled) × IsAssembledFor cards description program design made × (text ≡ image_text made.image (shape_of design))
+IsOutputText cards Listing (description ∷ program ∷ others) text = (design : Design) × (made : Assembled) × IsAssembledFor cards description program design made × (text ≡ made.listing)
 IsOutputText cards Verilog (description ∷ others) text = (form : Form) × IsFormDescription cards description form
     × (operation : Operation) × IsAddition cards form.width operation × IsDesignText operation form text
+IsOutputText cards output texts text = ⊥
 
 abbrev pub texts_of : Files → List Source → List (List ℕ)
 texts_of files sources = map (λ (source : Source). content files source.1) sources

@@ -4,6 +4,9 @@ use Rattle.std.specs.Fmt.{decimal}
 use Rattle.ap_desc.specs.FaultTable.{code_of}
 use Rattle.ap_desk.specs.declared.desk.DeskFault.{DeskFault}
 use Rattle.ap_desk.specs.declared.desk.DeskFault.TheVariants.{Failed, Missing, NoMemory}
+use Rattle.ap_program.specs.AsmKinds as kinds
+use Rattle.ap_program.specs.declared.fault.AsmFault.{AsmFault}
+use Rattle.ap_program.specs.declared.fault.AsmFault.TheVariants as assembling
 use Rattle.ap_top.specs.declared.form.Judged.{Judged}
 use Rattle.ap_top.specs.declared.form.Judged.TheVariants as judged
 use Rattle.ap_top.specs.declared.form.ReadFault.{ReadFault}
@@ -11,7 +14,7 @@ use Rattle.ap_top.specs.declared.form.ReadFault.TheVariants as reading
 use Rattle.ap_top.specs.declared.refusal.Stop.{Stop}
 use Rattle.ap_top.specs.declared.refusal.Stop.TheVariants.{Refused, Broken}
 use Rattle.ap_top.specs.declared.refusal.Refusal.{Refusal}
-use Rattle.ap_top.specs.declared.refusal.Refusal.TheVariants.{Usage, Description}
+use Rattle.ap_top.specs.declared.refusal.Refusal.TheVariants.{Usage, Description, Program}
 use Rattle.ap_top.specs.declared.refusal.Trouble.{Trouble}
 use Rattle.ap_top.specs.declared.refusal.Trouble.TheVariants.{Desk, Memory}
 
@@ -23,6 +26,7 @@ fault_text (judged.NotBuilt line) = codes "line " ++ decimal line ++ codes ": F0
 abbrev pub refusal_text : Refusal → List ℕ
 refusal_text Usage = codes "usage"
 refusal_text (Description judged) = codes "description: " ++ fault_text judged
+refusal_text (Program line kind) = codes "program: line " ++ decimal line ++ codes ": " ++ kinds.code_of kind
 
 abbrev pub line_feed : List ℕ
 line_feed = 10 ∷ []
@@ -35,6 +39,7 @@ refusal_line refusal = refusal_text refusal ++ line_feed
 abbrev pub refusal_status : Refusal → ℕ
 refusal_status Usage = 1
 refusal_status (Description judged) = 2
+refusal_status (Program line kind) = 3
 
 -- the line that is printed for a trouble
 abbrev pub trouble_line : Trouble → List ℕ
@@ -56,6 +61,11 @@ trouble_of NoMemory = Memory
 abbrev pub stop_of : ReadFault → Stop
 stop_of (reading.Refused judged) = Refused (Description judged)
 stop_of reading.NoMemory = Broken Memory
+
+-- how a fault of assembling a program does
+abbrev pub stop_of_program : AsmFault → Stop
+stop_of_program (assembling.At line kind) = Refused (Program line kind)
+stop_of_program assembling.NoMemory = Broken Memory
 
 -- a number that the program answers
 abbrev pub IsRefusalStatus : ℕ → Type 0

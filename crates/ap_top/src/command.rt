@@ -7,8 +7,12 @@ ghost use Rattle.ap_top.specs.Commands.{AreWordsApart, IsCall, IsCommand, IsInpu
 /// What a text that a command reads holds.
 #[derive(Clone, Copy, Debug, PartialEq, Eq)]
 pub enum Input {
-    /// The description of a processor.
+    /// The description of a processor that is built.
     Description,
+    /// The description of any processor, for which a program is assembled.
+    Processor,
+    /// A program for it.
+    Program,
 }
 
 /// What a text that a command writes holds.
@@ -16,6 +20,10 @@ pub enum Input {
 pub enum Output {
     /// The processor in Verilog.
     Verilog,
+    /// The words of the program, at their places in the processor's memories.
+    Image,
+    /// The listing of the program.
+    Listing,
 }
 
 /// What a word after a command's name stands for.
@@ -32,6 +40,8 @@ pub enum Slot {
 pub enum Command {
     /// `gen D V` reads a description and writes the processor in Verilog.
     Gen,
+    /// `asm D P I L` reads a description and a program for its processor, and writes the program's image and its listing.
+    Asm,
 }
 
 impl Slot {
@@ -54,6 +64,7 @@ impl Command {
     {
         match name {
             "gen" => Some(Command::Gen),
+            "asm" => Some(Command::Asm),
             _ => None,
         }
     }
@@ -66,6 +77,12 @@ impl Command {
             Command::Gen => &[
                 Slot::Input(Input::Description),
                 Slot::Output(Output::Verilog),
+            ],
+            Command::Asm => &[
+                Slot::Input(Input::Processor),
+                Slot::Input(Input::Program),
+                Slot::Output(Output::Image),
+                Slot::Output(Output::Listing),
             ],
         }
     }

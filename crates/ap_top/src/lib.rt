@@ -2,6 +2,7 @@
 #![tactic(auto)]
 
 pub mod addition;
+mod assembling;
 pub mod command;
 pub mod design;
 pub mod example;

@@ -2,10 +2,13 @@ ghost use Rattle.std.specs.Prelude.{◌≡◌, Some, IfOk};
 ghost use Rattle.std.specs.String.{string_bytes};
 ghost use Rattle.ap_top.specs.declared.refusal.Trouble.TheVariants.{Memory};
 ghost use Rattle.ap_top.specs.declared.refusal.Stop.TheVariants.{Broken};
-ghost use Rattle.ap_top.specs.Refusals.{fault_text, refusal_line, refusal_status, refusal_text, stop_of, trouble_line, trouble_of, trouble_status};
+ghost use Rattle.ap_top.specs.Form.{reading_of};
+ghost use Rattle.ap_top.specs.Refusals.{fault_text, refusal_line, refusal_status, refusal_text, stop_of, stop_of_program, trouble_line, trouble_of, trouble_status};
 
 use crate::form::{Judged, ReadFault};
+use ap_asm::{AsmFault, AsmKind};
 use ap_bits::NoMemory;
+use ap_desc::DescFault;
 use ap_desk::desk::DeskFault;
 use std::alloc::{AllocError, Global};
 use std::fmt;
@@ -17,6 +20,8 @@ pub enum Refusal {
     Usage,
     /// The description has this fault.
     Description(Judged),
+    /// The program has a fault of this kind at this line, counted from 1. Line 0 is the text as a whole.
+    Program { line: u32, kind: AsmKind },
 }
 
 /// What kept a command from being done or refused.
@@ -50,6 +55,10 @@ impl fmt::Display for Refusal {
         match self {
             Refusal::Usage => write!(f, "usage"),
             Refusal::Description(judged) => write!(f, "description: {judged}"),
+            Refusal::Program { line, kind } => {
+                let code = kind.code();
+                write!(f, "program: line {line}: {code}")
+            }
         }
     }
 }
@@ -62,6 +71,7 @@ impl Refusal {
         match self {
             Refusal::Usage => 1,
             Refusal::Description(_) => 2,
+            Refusal::Program { .. } => 3,
         }
     }
 
@@ -146,6 +156,25 @@ impl From<ReadFault> for Stop {
         match fault {
             ReadFault::Refused(judged) => Stop::Refused(Refusal::Description(judged)),
             ReadFault::NoMemory => Stop::Broken(Trouble::Memory),
+        }
+    }
+}
+
+impl From<DescFault> for Stop {
+    ghost from_gives = { λ fault stop. stop ≡ stop_of (reading_of fault) };
+
+    fn from(fault: DescFault) -> Stop {
+        Stop::from(ReadFault::from(fault))
+    }
+}
+
+impl From<AsmFault> for Stop {
+    ghost from_gives = { λ fault stop. stop ≡ stop_of_program fault };
+
+    fn from(fault: AsmFault) -> Stop {
+        match fault {
+            AsmFault::At { line, kind } => Stop::Refused(Refusal::Program { line, kind }),
+            AsmFault::NoMemory => Stop::Broken(Trouble::Memory),
         }
     }
 }

@@ -4,6 +4,8 @@
 #![tactic(auto)]
 
 #[cfg(test)]
+mod asm_tests;
+#[cfg(test)]
 mod desk_tests;
 #[cfg(test)]
 mod kinds;

@@ -46,7 +46,7 @@ fn words_of(alloc: Global, line: &str) -> Result<Vec<String>, AllocError> {
 }
 
 /// The status of a command; 255 where there is no memory for its words.
-fn status_of<D: Desk>(alloc: Global, line: &str, shelf: &Shelf, desk: &mut D) -> u8 {
+pub fn status_of<D: Desk>(alloc: Global, line: &str, shelf: &Shelf, desk: &mut D) -> u8 {
     match words_of(alloc, line) {
         Ok(words) => serve(alloc, &words, shelf, desk),
         Err(_) => 255,

@@ -26,5 +26,5 @@ returns c =
     is_assembled c.args.design.now c.args.layout.source c.args.starts.now c.in_ok-ends.ends.items c.in_ok-landings.landings c.in_ok-code.code.items c.args.layout.drain _ c.requires.clean c.requires.layout.fits c.requires.apart c.requires.starts c.in_ok-ends.ensures
     (subst (λ es. ArePicked c.args.design.now c.args.layout.source es (length es) c.in_ok-landings.landings) c.as_slice-ends.ensures.value c.in_ok-landings.ensures)
     (subst (λ es. HoldsGroups c.args.design.now c.args.layout.source c.args.starts.now es (length c.args.layout.source.groups) c.in_ok-code.code.items) c.as_slice-ends.ensures.value c.in_ok-code.ensures)
-    c.requires.layout.drain c.of-code.ensures refl c.in_ok-starts.ensures refl refl is_placed
+    c.requires.mems c.requires.layout.drain c.of-code.ensures refl c.in_ok-starts.ensures refl refl is_placed
     (c.in_ok-listing.ensures ∙ ap (λ n. listing_text c.args.design.now c.args.layout.drain c.in_ok-landings.landings n c.in_ok-code.code.items) is_placed)

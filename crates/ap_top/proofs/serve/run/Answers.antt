@@ -1,22 +1,41 @@
+use Rattle.std.proofs.Common.{map, subst}
 use Rattle.std.specs.String.{string_bytes}
 use Rattle.ap_unit.specs.Shelves.{cards_of}
-use Rattle.ap_top.specs.declared.command.Command.TheVariants.{Gen}
+use Rattle.ap_top.specs.declared.command.Command.TheVariants.{Asm, Gen}
 use Rattle.ap_top.specs.Calls.{call_of}
+use Rattle.ap_top.specs.Commands.{IsCall}
 use Rattle.ap_top.proofs.Causes.{asked_cause}
-use Rattle.ap_top.proofs.Calls.{as_gen, gen_inputs, gen_outputs, gen_done, gen_stopped}
+use Rattle.ap_top.proofs.Calls.{asm_inputs, asm_outputs, call_done, call_stopped, gen_inputs, gen_outputs}
 use Rattle.ap_top.proofs.serve.run.Goals as goal
 
 pub returns-in-Some-Gen-clause-done : goal.returns-in-Some-Gen-clause-done
 returns-in-Some-Gen-clause-done g c =
-    let call = as_gen _ _ c.in-Some-Gen.ensures.found in
-    gen_done _ c.generate.result _ _ _ _ _ call (gen_inputs string_bytes _ _ _ call c.index-words-1.is c.as_str.ensures.value) (gen_outputs string_bytes _ _ _ call c.index-words-2.is c.as_str-in-Some-Gen.ensures.value) c.generate.ensures.done
+    let call = subst (λ k. IsCall k (map string_bytes c.args.words.now)) c.in-Some-Gen.field-0-is c.in-Some-Gen.ensures.found in
+    call_done _ Gen c.generate.result _ _ _ _ _ call (gen_inputs string_bytes _ _ _ call c.index-words-1.is c.as_str.ensures.value) (gen_outputs string_bytes _ _ _ call c.index-words-2.is c.as_str-in-Some-Gen.ensures.value) c.generate.ensures.done
 
 pub returns-in-Some-Gen-clause-stopped : goal.returns-in-Some-Gen-clause-stopped
 returns-in-Some-Gen-clause-stopped g c =
-    let call = as_gen _ _ c.in-Some-Gen.ensures.found in
-    gen_stopped _ c.generate.result _ _ _ _ _ call (gen_inputs string_bytes _ _ _ call c.index-words-1.is c.as_str.ensures.value) (gen_outputs string_bytes _ _ _ call c.index-words-2.is c.as_str-in-Some-Gen.ensures.value) c.generate.ensures.stopped
+    let call = subst (λ k. IsCall k (map string_bytes c.args.words.now)) c.in-Some-Gen.field-0-is c.in-Some-Gen.ensures.found in
+    call_stopped _ Gen c.generate.result _ _ _ _ _ call (gen_inputs string_bytes _ _ _ call c.index-words-1.is c.as_str.ensures.value) (gen_outputs string_bytes _ _ _ call c.index-words-2.is c.as_str-in-Some-Gen.ensures.value) c.generate.ensures.stopped
 
 pub returns-in-Some-Gen-clause-cause : goal.returns-in-Some-Gen-clause-cause
 returns-in-Some-Gen-clause-cause g c =
-    let call = as_gen _ _ c.in-Some-Gen.ensures.found in
+    let call = subst (λ k. IsCall k (map string_bytes c.args.words.now)) c.in-Some-Gen.field-0-is c.in-Some-Gen.ensures.found in
     asked_cause (call_of (cards_of (λ x. (goal.UnitKind-dyn g x).card x.1) c.args.shelf.now) c.args.words.now (g.D.Desk.files c.args.desk.now)) Gen _ _ _ c.generate.result call (gen_inputs string_bytes _ _ _ call c.index-words-1.is c.as_str.ensures.value) c.generate.ensures.cause
+
+pub returns-in-Some-Asm-clause-done : goal.returns-in-Some-Asm-clause-done
+returns-in-Some-Asm-clause-done g c =
+    let call = subst (λ k. IsCall k (map string_bytes c.args.words.now)) c.in-Some-Asm.field-0-is c.in-Some-Asm.ensures.found in
+    call_done _ Asm c.assemble.result _ _ _ _ _ call (asm_inputs string_bytes _ _ _ _ _ call c.index-words-1-in-Some-Asm.is c.as_str-in-Some-Asm.ensures.value c.index-words-2-in-Some-Asm.is c.as_str-in-Some-Asm-2.ensures.value)
+    (asm_outputs string_bytes _ _ _ _ _ call c.index-words-3.is c.as_str-in-Some-Asm-3.ensures.value c.index-words-4.is c.as_str-in-Some-Asm-4.ensures.value) c.assemble.ensures.done
+
+pub returns-in-Some-Asm-clause-stopped : goal.returns-in-Some-Asm-clause-stopped
+returns-in-Some-Asm-clause-stopped g c =
+    let call = subst (λ k. IsCall k (map string_bytes c.args.words.now)) c.in-Some-Asm.field-0-is c.in-Some-Asm.ensures.found in
+    call_stopped _ Asm c.assemble.result _ _ _ _ _ call (asm_inputs string_bytes _ _ _ _ _ call c.index-words-1-in-Some-Asm.is c.as_str-in-Some-Asm.ensures.value c.index-words-2-in-Some-Asm.is c.as_str-in-Some-Asm-2.ensures.value)
+    (asm_outputs string_bytes _ _ _ _ _ call c.index-words-3.is c.as_str-in-Some-Asm-3.ensures.value c.index-words-4.is c.as_str-in-Some-Asm-4.ensures.value) c.assemble.ensures.stopped
+
+pub returns-in-Some-Asm-clause-cause : goal.returns-in-Some-Asm-clause-cause
+returns-in-Some-Asm-clause-cause g c =
+    let call = subst (λ k. IsCall k (map string_bytes c.args.words.now)) c.in-Some-Asm.field-0-is c.in-Some-Asm.ensures.found in
+    asked_cause (call_of (cards_of (λ x. (goal.UnitKind-dyn g x).card x.1) c.args.shelf.now) c.args.words.now (g.D.Desk.files c.args.desk.now)) Asm _ _ _ c.assemble.result call (asm_inputs string_bytes _ _ _ _ _ call c.index-words-1-in-Some-Asm.is c.as_str-in-Some-Asm.ensures.value c.index-words-2-in-Some-Asm.is c.as_str-in-Some-Asm-2.ensures.value) c.assemble.ensures.cause

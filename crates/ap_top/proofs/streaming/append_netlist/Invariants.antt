@@ -1,4 +1,4 @@
-use Rattle.std.proofs.Common.{◌≡◌, ℕ, ◌+◌, List, length, if◌then◌else◌}
+use Rattle.std.proofs.Common.{◌≡◌, ◌+◌, length, if◌then◌else◌}
 use Rattle.ap_net.specs.Text.{netlist_text}
 use Rattle.ap_top.proofs.Streamed.{IsStreaming}
 use Rattle.ap_top.proofs.streaming.append_netlist.Given as goal
