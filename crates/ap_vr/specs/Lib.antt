@@ -7,3 +7,11 @@ pub mod TextLines
 pub mod Places
 pub mod Named
 pub mod Reading
+pub mod Scope
+pub mod Tables
+pub mod Nets
+pub mod Marks
+pub mod Driving
+pub mod Widths
+pub mod Judged
+pub mod Built

@@ -1,6 +1,8 @@
 //! A module as its lines say it, by names.
 ghost use Rattle.std.specs.Prelude.{◌≡◌, ◌++◌, ◌∷◌, [], IfOk, OnOk};
 ghost use Rattle.ap_vr.specs.Named.{blank, grown};
+ghost use Rattle.ap_vr.specs.Reading.{HasFewLines};
+ghost use Rattle.ap_vr.specs.Scope.{assigns_from, instances_from, nexts_from, ports_from, regs_from, wires_from};
 
 use crate::line::{Line, NamedAssign, NamedInstance, NamedNext};
 use ap_bits::{Items, NoMemory};
@@ -54,5 +56,53 @@ impl NamedModule {
             Line::Clock | Line::Reset | Line::Close | Line::End => {}
         }
         Ok(())
+    }
+
+    /// The line of the first port.
+    pub(crate) fn ports_from(&self) -> u32
+        requires { HasFewLines self.now }
+        ensures { result ≡ ports_from self.now }
+    {
+        self.line + 3
+    }
+
+    /// The line of the first wire.
+    pub(crate) fn wires_from(&self) -> u32
+        requires { HasFewLines self.now }
+        ensures { result ≡ wires_from self.now }
+    {
+        self.line + 4 + self.ports.len() as u32
+    }
+
+    /// The line of the first register.
+    pub(crate) fn regs_from(&self) -> u32
+        requires { HasFewLines self.now }
+        ensures { result ≡ regs_from self.now }
+    {
+        self.wires_from() + self.wires.len() as u32
+    }
+
+    /// The line of the first assign.
+    pub(crate) fn assigns_from(&self) -> u32
+        requires { HasFewLines self.now }
+        ensures { result ≡ assigns_from self.now }
+    {
+        self.regs_from() + self.regs.len() as u32
+    }
+
+    /// The line of the first driver of a register.
+    pub(crate) fn nexts_from(&self) -> u32
+        requires { HasFewLines self.now }
+        ensures { result ≡ nexts_from self.now }
+    {
+        self.assigns_from() + self.assigns.len() as u32
+    }
+
+    /// The line of the first instance.
+    pub(crate) fn instances_from(&self) -> u32
+        requires { HasFewLines self.now }
+        ensures { result ≡ instances_from self.now }
+    {
+        self.nexts_from() + self.nexts.len() as u32
     }
 }

@@ -4,6 +4,14 @@
 #![tactic(auto)]
 
 #[cfg(test)]
+mod example_tests;
+#[cfg(test)]
 mod line_tests;
 #[cfg(test)]
+mod return_tests;
+#[cfg(test)]
 mod texts;
+#[cfg(test)]
+mod top_text;
+#[cfg(test)]
+mod unit_texts;

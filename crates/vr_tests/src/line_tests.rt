@@ -1,5 +1,5 @@
 //! Each line of the small text dropped, doubled and exchanged with its neighbour, and lines in another's place.
-use crate::texts::{Due, expect, gate, small};
+use crate::texts::{Due, expect, gate, small, turned_gate};
 use std::alloc::Global;
 use std::process::Abort;
 use std::test::Fail;
@@ -387,8 +387,8 @@ fn instances() -> [(&'static str, Due); 17] {
     ]
 }
 
-/// The gate and the small text with one more wire x and this instance.
-fn with_instance(alloc: Global, instance: &str) -> Result<String, Fail> {
+/// These modules, and the small text with one more wire x and this instance.
+fn with_instance(alloc: Global, modules: &[&str], instance: &str) -> Result<String, Fail> {
     let with_wire = small().replace(
         alloc,
         "  wire [3:0] n1;\n",
@@ -398,7 +398,10 @@ fn with_instance(alloc: Global, instance: &str) -> Result<String, Fail> {
     let top = with_wire
         .as_str()
         .replace(alloc, "endmodule\n", line.as_str())?;
-    let mut text = String::from_str(alloc, gate())?;
+    let mut text = String::new(alloc);
+    for module in modules {
+        text.push_str(module)?;
+    }
     text.push_str(top.as_str())?;
     Ok(text)
 }
@@ -407,7 +410,29 @@ fn with_instance(alloc: Global, instance: &str) -> Result<String, Fail> {
 fn instances_of_a_gate(rt: HostRuntime) -> Result<(), Fail> {
     let alloc = rt.alloc();
     for (instance, due) in instances() {
-        let text = with_instance(alloc, instance)?;
+        let text = with_instance(alloc, &[gate()], instance)?;
+        expect(&rt, alloc, text.as_bytes(), due, instance)?;
+    }
+    Ok(())
+}
+
+/// An instance is of the first module of its name, and names that lines use are looked at before names that
+/// are declared twice.
+#[test]
+fn instances_of_two_gates(rt: HostRuntime) -> Result<(), Fail> {
+    let alloc = rt.alloc();
+    let rows: [(&str, Due); 2] = [
+        (
+            "gate g (.clk(clk), .rst(rst), .a(pc), .y(x));",
+            Some(("V3", 9)),
+        ),
+        (
+            "gate g (.clk(clk), .rst(rst), .y(x), .a(pc));",
+            Some(("V2", 40)),
+        ),
+    ];
+    for (instance, due) in rows {
+        let text = with_instance(alloc, &[gate(), turned_gate()], instance)?;
         expect(&rt, alloc, text.as_bytes(), due, instance)?;
     }
     Ok(())

@@ -1,0 +1,17 @@
+use Rattle.std.proofs.Common.{◌∙◌, ap, arith, not, sym}
+use Rattle.ap_vr.proofs.FirstLines.{first_begins, first_further, first_here, first_nowhere}
+use Rattle.ap_vr.proofs.widths.misfit_next.Goals as goal
+
+pub loop-place-init : goal.loop-place-init
+loop-place-init c = first_begins _ c.args.from c.args.nexts.now
+
+pub returns-then-not-next_fits : goal.returns-then-not-next_fits
+returns-then-not-next_fits c =
+    first_here _ c.args.from c.args.nexts.now c.loop-place.place c.index-nexts-place.result _ c.loop-place.invariant c.loop-place-test.true c.index-nexts-place.is (ap not (sym c.next_fits.ensures ∙ c.if-not-next_fits.true))
+
+pub loop-place-preserved : goal.loop-place-preserved
+loop-place-preserved c =
+    first_further _ c.args.from c.args.nexts.now c.loop-place.place c.index-nexts-place.result _ c.loop-place.invariant c.loop-place-test.true c.index-nexts-place.is (ap not (sym c.next_fits.ensures ∙ c.if-not-next_fits.false))
+
+pub returns : goal.returns
+returns c = first_nowhere _ c.args.from c.args.nexts.now c.loop-place.place _ c.loop-place.invariant (omega (arith, c.loop-place-test.false))
