@@ -1,0 +1,16 @@
+pub mod OpeningSteps
+pub mod NameLists
+pub mod Searches
+pub mod Steps
+pub mod Driving
+pub mod Looking
+pub mod Asking
+pub mod Betweens
+pub mod PortLists
+pub mod PortPieces
+pub mod Storages
+pub mod GroupPieces
+pub mod Dues
+pub mod TopPorts
+pub mod Ordered
+pub mod Flattened

@@ -1,0 +1,10 @@
+pub mod Names
+pub mod Opening
+pub mod Dependence
+pub mod Drivers
+pub mod PortNets
+pub mod Searching
+pub mod OpenedParts
+pub mod Ports
+pub mod Flats
+pub mod FlatFaults
