@@ -1,0 +1,16 @@
+pub mod Asked
+pub mod Chained
+pub mod Choosing
+pub mod Filled
+pub mod Grown
+pub mod Lined
+pub mod Listed
+pub mod Low
+pub mod Placed
+pub mod Served
+pub mod Shallow
+pub mod Sharing
+pub mod Sourced
+pub mod Stored
+pub mod Swept
+pub mod Wired

@@ -1,0 +1,25 @@
+use Rattle.std.proofs.Common.{refl, arith}
+use Rattle.ap_net.specs.declared.cell.Wire.{Wire}
+use Rattle.ap_stage.proofs.Lined.{found_no, found_some, line_wiring, none_made, slice_line}
+use Rattle.ap_stage.proofs.line.slice_net.Goals as goal
+
+pub sliced-requires-clause-a : goal.sliced-requires-clause-a
+sliced-requires-clause-a c = (rw c.in-Some.is at c.in_ok-found.ensures.net).net
+
+pub sliced-requires-clause-within : goal.sliced-requires-clause-within
+sliced-requires-clause-within c = let wide = (rw c.in-Some.is at c.in_ok-found.ensures.net).wide in let room = c.requires.room.1 in omega arith
+
+pub returns-clause-net : goal.returns-clause-net
+returns-clause-net c = slice_line _ _ c.args.ground.now c.args.scope.now c.args.row.now c.args.a c.args.high c.args.low c.in-Some.x _ c.in_ok-bits.ensures.wiring.makes (rw c.in-Some.is at c.in_ok-found.ensures.net) c.in_ok-bits.ensures.carries
+
+pub returns-clause-wiring : goal.returns-clause-wiring
+returns-clause-wiring c = line_wiring _ _ _ _ c.in-Some.x _ (rw c.in-Some.is at c.in_ok-found.ensures.wiring) c.in_ok-bits.ensures.wiring
+
+pub returns-clause-found : goal.returns-clause-found
+returns-clause-found c = (λ h. refl, λ h. found_some _ c.in-Some.x c.in-Some.is c.in_ok-found.ensures.found)
+
+pub returns-in_default-clause-none : goal.returns-in_default-clause-none
+returns-in_default-clause-none c = none_made _ _ _ c.in_default.is c.in_ok-found.ensures.none
+
+pub returns-in_default-clause-found : goal.returns-in_default-clause-found
+returns-in_default-clause-found c = found_no Wire _ c.in_default.is c.in_ok-found.ensures.found (λ h. h)

@@ -1,0 +1,14 @@
+use Rattle.std.proofs.Common.{◌≡◌, ℕ, ◌<◌, Some}
+use Rattle.std.specs.Prelude.{slice_get}
+use Rattle.ap_net.specs.Making.{Makes}
+use Rattle.ap_stage.specs.declared.slot.Stored.{Stored}
+use Rattle.ap_stage.specs.Slots.{HasStored}
+use Rattle.ap_stage.specs.Sources.{IsRow}
+use Rattle.ap_stage.proofs.slot.fill_slots.Given as goal
+
+abbrev pub invariant-loop-one : goal.invariant-loop-one
+invariant-loop-one l = record {
+  is_row : IsRow l.out.nets l.scope l.row;
+  has : (k : ℕ) (s : Stored) → k < l.one-index → slice_get l.stored k ≡ Some s → HasStored l.out l.scope l.row s;
+  makes : Makes l.fn.out l.out;
+}

@@ -1,0 +1,10 @@
+pub mod Asks
+pub mod Chained
+pub mod Courses
+pub mod Offers
+pub mod Rows
+pub mod Slots
+pub mod Sources
+pub mod Trees
+pub mod Users
+pub mod Wiring
