@@ -1,0 +1,10 @@
+pub mod Acting
+pub mod Effects
+pub mod Entries
+pub mod Given
+pub mod Growing
+pub mod Matched
+pub mod Offered
+pub mod Reading
+pub mod Shows
+pub mod Written

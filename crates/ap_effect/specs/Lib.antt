@@ -1,0 +1,4 @@
+pub mod Writers
+pub mod Lines
+pub mod Shown
+pub mod Border
