@@ -1,0 +1,12 @@
+pub mod AllPlans
+pub mod Clocking
+pub mod Driving
+pub mod Halves
+pub mod Left
+pub mod Locals
+pub mod PlanNames
+pub mod Plans
+pub mod SlotWidths
+pub mod SlotNets
+pub mod Steps
+pub mod Within

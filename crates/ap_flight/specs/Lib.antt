@@ -1,0 +1,4 @@
+pub mod Planned
+pub mod Entries
+pub mod Locals
+pub mod Stages
