@@ -1,0 +1,11 @@
+pub mod BusyByGo
+pub mod ControlShown
+pub mod FetchShown
+pub mod FilesStored
+pub mod FlightsShown
+pub mod InstrsRead
+pub mod NamesRead
+pub mod ProcessorShown
+pub mod RegsStored
+pub mod SlowUnitsShown
+pub mod StagesShown

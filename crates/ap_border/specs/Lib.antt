@@ -1,0 +1,11 @@
+pub mod Control
+pub mod Fetch
+pub mod Files
+pub mod Flights
+pub mod Named
+pub mod Processor
+pub mod SlowUnits
+pub mod StageData
+pub mod StageShown
+pub mod Storages
+pub mod Units

@@ -1,0 +1,4 @@
+pub mod Absent
+pub mod FlatRuns
+pub mod ReadRuns
+pub mod Standing
