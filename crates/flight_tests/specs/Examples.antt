@@ -21,7 +21,7 @@ f_instr name number fixed mask value locals micros = record {
   micros = micros;
 }
 
--- instr INC F op=1: 1 z = zext 8 v, 1 a = R, 2 s = ALU.add a z, 2 R <- s
+-- the lines of INC: 1 z = zext 8 v, 1 a = R, 2 s = ALU.add a z, 2 R <- s
 abbrev pub inc_lines : List Micro
 inc_lines =
     record { line = 11; stage = 1; act = act.Zext 8 (arg.Field 1) } ∷ record { line = 12; stage = 1; act = act.ReadReg 0 }
@@ -30,6 +30,14 @@ inc_lines =
 -- format F with a field op of two bits, and v below it, in eight bits
 abbrev pub format_f : Format
 format_f = record { name = codes "F"; line = 7; fields = record { name = codes "op"; width = 2; low = 6 } ∷ record { name = codes "v"; width = 6; low = 0 } ∷ [] }
+
+-- instr NOP F op=0 v=0
+abbrev pub nop : Instr
+nop = f_instr (codes "NOP") 8 (Some 0 ∷ Some 0 ∷ []) 255 0 [] []
+
+-- instr INC F op=1, with these lines
+abbrev pub inc : Instr
+inc = f_instr (codes "INC") 10 (Some 1 ∷ None ∷ []) 192 64 (8 ∷ 8 ∷ 8 ∷ []) inc_lines
 
 -- three stages, a register R of 8 bits and a unit ALU; NOP, and INC
 abbrev pub increments : Design
@@ -46,7 +54,7 @@ increments = record {
   inputs = [];
   units = record { name = codes "ALU"; kind = 0; width = 8; latency = 1 } ∷ [];
   formats = format_f ∷ [];
-  instrs = f_instr (codes "NOP") 8 (Some 0 ∷ Some 0 ∷ []) 255 0 [] [] ∷ f_instr (codes "INC") 10 (Some 1 ∷ None ∷ []) 192 64 (8 ∷ 8 ∷ 8 ∷ []) inc_lines ∷ [];
+  instrs = nop ∷ inc ∷ [];
 }
 
 -- a register by its name and bits

@@ -1,9 +1,9 @@
 //! A design of three stages, a register and a unit, whose instruction INC adds a field to the register.
-ghost use Rattle.std.specs.Prelude.{◌≡◌, ◌∷◌, [], codes, IfOk, true};
+ghost use Rattle.std.specs.Prelude.{◌≡◌, ◌∷◌, [], IfOk, true};
 ghost use Rattle.ap_bits.specs.Names.{IsName};
 ghost use Rattle.ap_desc.specs.Clean.{IsClean};
 ghost use Rattle.ap_desc.specs.Sound.{IsSound};
-ghost use Rattle.flight_tests.specs.Examples.{f_instr, format_f, inc_lines, increments};
+ghost use Rattle.flight_tests.specs.Examples.{format_f, inc, inc_lines, increments, nop};
 
 use ap_bits::{Items, Name, NoMemory};
 use ap_desc::design::{Act, Arg, Design, Field, Format, Instr, Micro, Reg, Unit};
@@ -78,7 +78,7 @@ fn inc_lines() -> [Micro; 4]
 }
 
 fn nop(alloc: Global) -> Result<Instr, NoMemory>
-    ensures { IfOk result (λ instr. instr ≡ f_instr (codes "NOP") 8 (Some 0 ∷ Some 0 ∷ []) 255 0 [] []) }
+    ensures { IfOk result (λ instr. instr ≡ nop) }
 {
     let name = Name::new(alloc, b"NOP")?;
     let fixed = Items::copy_of(alloc, &[Some(0), Some(0)])?;
@@ -95,7 +95,7 @@ fn nop(alloc: Global) -> Result<Instr, NoMemory>
 }
 
 fn inc(alloc: Global) -> Result<Instr, NoMemory>
-    ensures { IfOk result (λ instr. instr ≡ f_instr (codes "INC") 10 (Some 1 ∷ None ∷ []) 192 64 (8 ∷ 8 ∷ 8 ∷ []) inc_lines) }
+    ensures { IfOk result (λ instr. instr ≡ inc) }
 {
     let name = Name::new(alloc, b"INC")?;
     let fixed = Items::copy_of(alloc, &[Some(1), None])?;
@@ -113,21 +113,27 @@ fn inc(alloc: Global) -> Result<Instr, NoMemory>
     })
 }
 
-/// The whole design.
-fn increments(alloc: Global) -> Result<Design, NoMemory>
-    ensures { IfOk result (λ design. design ≡ increments) }
+/// The register R of 8 bits.
+fn regs(alloc: Global) -> Result<Items<Reg>, NoMemory>
+    ensures { IfOk result (λ regs. regs ≡ increments.regs) }
 {
     let name = Name::new(alloc, b"R")?;
-    let regs = alone(
+    alone(
         alloc,
         Reg {
             name,
             width: 8,
             reset: 0,
         },
-    )?;
+    )
+}
+
+/// The unit ALU of 8 bits.
+fn units(alloc: Global) -> Result<Items<Unit>, NoMemory>
+    ensures { IfOk result (λ units. units ≡ increments.units) }
+{
     let name = Name::new(alloc, b"ALU")?;
-    let units = alone(
+    alone(
         alloc,
         Unit {
             name,
@@ -135,7 +141,13 @@ fn increments(alloc: Global) -> Result<Design, NoMemory>
             width: 8,
             latency: 1,
         },
-    )?;
+    )
+}
+
+/// The whole design.
+fn increments(alloc: Global) -> Result<Design, NoMemory>
+    ensures { IfOk result (λ design. design ≡ increments) }
+{
     let mut instrs = Items::new(alloc);
     instrs.push(nop(alloc)?)?;
     instrs.push(inc(alloc)?)?;
@@ -146,11 +158,11 @@ fn increments(alloc: Global) -> Result<Design, NoMemory>
         branch: 1,
         slots: 0,
         transfer_line: 4,
-        regs,
+        regs: regs(alloc)?,
         files: Items::new(alloc),
         mems: Items::new(alloc),
         inputs: Items::new(alloc),
-        units,
+        units: units(alloc)?,
         formats: formats(alloc)?,
         instrs,
     })
