@@ -1,7 +1,7 @@
 -- Whether a unit of several cycles is busy, by what it was asked in earlier cycles and by go. The run is changed in its last cycle alone:
 -- there it is asked the same as in the cycle before, or its first operation. Then it shows its age; and busy depends on go alone, so it is
 -- the same in the run as it is.
-use Rattle.std.proofs.Common.{◌≡◌, ◌≢◌, ℕ, zero, suc, ◌+◌, ◌-◌, ◌<◌, ◌≤◌, ◌^◌, List, [], ◌∷◌, ◌++◌, length, map, Some, Bool, true, false, refl, sym, ap, subst, ◌∙◌, arith, ⊎_elim}
+use Rattle.std.proofs.Common.{◌≡◌, ◌≢◌, ℕ, zero, suc, ◌+◌, ◌-◌, ◌<◌, ◌≤◌, ◌^◌, List, ◌++◌, length, map, Some, Bool, true, false, refl, sym, ap, subst, ◌∙◌, arith, ⊎_elim}
 use Rattle.std.specs.Prelude.{◌⊎◌, ◌↔◌, ◌||◌, IsTrue, nat_lt, slice_get, ◌==◌, if◌then◌else◌, option_map}
 use Rattle.std.proofs.lemmas.Nat.{pow_pos}
 use Rattle.std.proofs.lemmas.Bool.{cases_lt, lt-ltb, ltb-true}
@@ -10,22 +10,20 @@ use Rattle.std.proofs.lemmas.Option.{slice_get_within, slice_get-map}
 use Rattle.ap_bits.specs.declared.card.Card.{Card}
 use Rattle.ap_bits.specs.declared.card.Latency.{Latency}
 use Rattle.ap_bits.specs.declared.card.Latency.TheVariants.{WidthPlusOne}
-use Rattle.ap_bits.specs.Cards.{latency_at, select_width, operation_value}
+use Rattle.ap_bits.specs.Cards.{latency_at, select_width}
 use Rattle.ap_net.specs.declared.net.Role.TheVariants as role
 use Rattle.ap_net.specs.declared.net.ModuleNet.{ModuleNet}
 use Rattle.ap_net.specs.declared.net.Port.{Port}
 use Rattle.ap_net.specs.declared.net.Next.{Next}
 use Rattle.ap_net.specs.Wiring.{IsSource, Settles, NextFits, reset_of}
 use Rattle.ap_net.specs.Modules.{ModuleText, IsModule, nets_of, port_net, wire_net, reg_net, reset_at}
-use Rattle.ap_net.specs.Depends.{DependsOnNone}
 use Rattle.ap_net.specs.Alone.{IsPlainModule, SolvesWith, RunsAlone}
 use Rattle.ap_net.proofs.Lists.{All-both, get_left, some_same}
-use Rattle.ap_net.proofs.Parts.{net_of_width, width_at, All-named}
-use Rattle.ap_net.proofs.Alone.{modules_are_solvable, agree_on_closed_sets, parts_run_alone}
+use Rattle.ap_net.proofs.Parts.{net_of_width, width_at}
+use Rattle.ap_net.proofs.Alone.{modules_are_solvable, agree_on_closed_sets}
 use Rattle.ap_unit.specs.Ages.{UnitInput, IsHeld, IsProperAt, AreProper, age_after, age_at}
 use Rattle.ap_unit.proofs.Users.{asked_units_show}
-use Rattle.ap_unit.specs.Units.{IsUnit, ShowsAge, Behaves, ComputesInCycles, ports_by, input_of, busy_of, result_of, in_port}
-use Rattle.ap_unit.specs.Slow.{IsAskedAt}
+use Rattle.ap_unit.specs.Units.{IsUnit, ShowsAge, Behaves, ComputesInCycles, ports_by, input_of, busy_of, in_port}
 use Rattle.ap_border.specs.Units.{BusyGoesByGo}
 
 is_true : (b : Bool) (x y : ℕ) → b ≡ true → (if b then x else y) ≡ x

@@ -1,6 +1,6 @@
 -- The signals of a run show control.
-use Rattle.std.proofs.Common.{◌≡◌, ℕ, zero, suc, ◌+◌, ◌-◌, ◌<◌, ◌≤◌, List, [], ◌∷◌, length, Option, Some, None, Bool, true, false, refl, sym, ap, subst, ◌∙◌, arith}
-use Rattle.std.specs.Prelude.{◌==◌, codes, if◌then◌else◌, is_some, slice_get}
+use Rattle.std.proofs.Common.{◌≡◌, ℕ, zero, suc, ◌+◌, ◌-◌, ◌<◌, ◌≤◌, List, [], ◌∷◌, length, Option, Some, None, Bool, true, false, refl, ap, subst, ◌∙◌, arith}
+use Rattle.std.specs.Prelude.{◌==◌, codes, if◌then◌else◌, is_some}
 use Rattle.std.specs.Option.{option_map_or}
 use Rattle.ap_desc.specs.declared.design.Design.{Design}
 use Rattle.ap_desc.specs.declared.design.Unit.{Unit as Resource}
@@ -10,18 +10,18 @@ use Rattle.ap_net.specs.Runs.{bit}
 use Rattle.ap_net.proofs.Renumbered.{some_within}
 use Rattle.ap_cycle.specs.Circuit.{EachStage}
 use Rattle.ap_signals.specs.NetRuns.{NetRun, held_value, net_value, part_value, unit_part, valid_name, word_name}
-use Rattle.ap_signals.specs.NetSignals.{by_stage, net_signals, stage_valid, stage_word, unit_value_at}
+use Rattle.ap_signals.specs.NetSignals.{net_signals, stage_valid, stage_word}
 use Rattle.ap_ctl.specs.declared.nets.ControlGiven.{ControlGiven}
 use Rattle.ap_ctl.specs.declared.nets.ControlNets.{ControlNets}
 use Rattle.ap_ctl.specs.Border.{ShowsControl}
 use Rattle.ap_ctl.specs.Building.{is_on}
 use Rattle.ap_ctl.specs.Given.{slow_units}
-use Rattle.ap_ctl.specs.Lists.{EachFrom, EachPair}
+use Rattle.ap_ctl.specs.Lists.{EachFrom}
 use Rattle.ap_ctl.specs.Meaning.{Look, Sees, is_held, kills, next_valid}
 use Rattle.ap_ctl.specs.Nets.{Takes}
 use Rattle.ap_ctl.proofs.Beside.{EachFrom-at, EachFrom-within, EachPair-weaker}
-use Rattle.ap_border.specs.Control.{ControlIsShown, HasControl, IsBusyOf, IsWordOf, RunsControl, ValidBitsGo, ValidBitsStart, look_at}
-use Rattle.ap_border.specs.Named.{IsRegisterNamed, IsRegisterRead, IsZeroNamed}
+use Rattle.ap_border.specs.Control.{ControlIsShown, IsBusyOf, IsWordOf, RunsControl, ValidBitsGo, ValidBitsStart, look_at}
+use Rattle.ap_border.specs.Named.{IsRegisterRead, IsZeroNamed}
 use Rattle.ap_border.proofs.NamesRead.{names_are_read, parts_are_read, registers_are_read}
 
 -- a bit is 1 exactly where it says so

@@ -13,8 +13,8 @@ use Rattle.ap_cycle.specs.Signals.{Signals}
 use Rattle.ap_signals.specs.NetRuns.{NetRun, net_value, pc_name, taken_value}
 use Rattle.ap_signals.specs.NetSignals.{net_signals}
 use Rattle.ap_ctl.specs.declared.nets.ControlGiven.{ControlGiven}
-use Rattle.ap_ctl.specs.Border.{GivesBorder, ShowsControl}
-use Rattle.ap_ctl.specs.Meaning.{Look, Sees, is_held, kills}
+use Rattle.ap_ctl.specs.Border.{ShowsControl}
+use Rattle.ap_ctl.specs.Meaning.{Look, is_held, kills}
 use Rattle.ap_border.specs.Control.{RunsControl, look_at}
 use Rattle.ap_border.specs.Fetch.{FetchGoes, FetchIsShown, FetchStarts, HasFetch, next_pc}
 use Rattle.ap_border.specs.Named.{IsRegisterRead}

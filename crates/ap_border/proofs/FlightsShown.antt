@@ -1,6 +1,6 @@
 -- Words, addresses and locals go on from cycle to cycle.
 use Rattle.std.proofs.Common.{◌≡◌, ℕ, zero, suc, ◌+◌, ◌-◌, ◌<◌, ◌≤◌, ◌%◌, ◌^◌, List, length, Option, Some, None, Bool, true, false, refl, sym, ap, subst, ◌∙◌, arith}
-use Rattle.std.specs.Prelude.{if◌then◌else◌, codes, slice_get, slice_index}
+use Rattle.std.specs.Prelude.{if◌then◌else◌, codes, slice_index}
 use Rattle.std.specs.Option.{option_map_or}
 use Rattle.ap_desc.specs.declared.design.Design.{Design}
 use Rattle.ap_desc.specs.declared.design.Instr.{Instr}
@@ -15,14 +15,13 @@ use Rattle.ap_net.proofs.Renumbered.{some_within}
 use Rattle.ap_cycle.specs.Circuit.{EachStage, Passes, Stays}
 use Rattle.ap_cycle.specs.Signals.{Signals, goes_on}
 use Rattle.ap_signals.specs.NetRuns.{NetRun, held_value, pc_name, place_name, slot_name, taken_value, word_name}
-use Rattle.ap_signals.specs.NetSignals.{by_stage, local_of, net_signals, slot_local, stage_word}
+use Rattle.ap_signals.specs.NetSignals.{by_stage, local_of, net_signals, slot_local}
 use Rattle.ap_signals.proofs.NetMachine.{taken_is_held}
 use Rattle.ap_ctl.specs.Border.{ValidGoesOn}
 use Rattle.ap_ctl.specs.Building.{is_on}
 use Rattle.ap_ctl.proofs.Beside.{EachFrom-at}
-use Rattle.ap_flight.specs.declared.stage.StageRegisters.{StageRegisters}
 use Rattle.ap_flight.specs.Stages.{PassesOn, TakesNet}
-use Rattle.ap_border.specs.Flights.{FlightsGo, FlightsGoOn, HasStage, HoldsShown, IsSlotOf, RunsFlights}
+use Rattle.ap_border.specs.Flights.{FlightsGo, FlightsGoOn, HoldsShown, IsSlotOf, RunsFlights}
 use Rattle.ap_border.specs.Named.{IsRegisterRead, IsZeroNamed}
 use Rattle.ap_border.proofs.ControlShown.{later_word}
 use Rattle.ap_border.proofs.NamesRead.{names_are_read, registers_are_read}

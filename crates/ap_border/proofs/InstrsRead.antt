@@ -1,5 +1,5 @@
 -- The values of an instruction's operands meet the equations of its lines.
-use Rattle.std.proofs.Common.{◌≡◌, ℕ, zero, suc, ◌+◌, ◌-◌, ◌<◌, ◌≤◌, ◌%◌, ◌^◌, List, [], ◌∷◌, length, map, Option, Some, None, Bool, true, false, refl, sym, ap, subst, ◌∙◌, arith}
+use Rattle.std.proofs.Common.{◌≡◌, ℕ, zero, suc, ◌+◌, ◌-◌, ◌<◌, ◌≤◌, ◌%◌, ◌^◌, List, [], ◌∷◌, length, map, Option, Some, Bool, true, false, refl, sym, ap, subst, ◌∙◌, arith}
 use Rattle.std.specs.Prelude.{codes, find, if◌then◌else◌, option_map, slice_get, slice_index, slice_index_or}
 use Rattle.std.specs.List.{range_with_len}
 use Rattle.std.specs.Option.{option_map_or}
@@ -44,8 +44,6 @@ use Rattle.ap_signals.specs.NetRuns.{NetRun, cell_name, file_part, held_value, n
 use Rattle.ap_signals.specs.NetSignals.{net_signals, slot_local}
 use Rattle.ap_signals.proofs.NetMachine.{same_inputs}
 use Rattle.ap_store.specs.FileModules.{held}
-use Rattle.ap_store.specs.FilePorts.{read_index, read_value}
-use Rattle.ap_border.specs.Files.{HasFile}
 use Rattle.ap_border.specs.Named.{IsNamed}
 use Rattle.ap_border.specs.Processor.{RunsProcessor}
 use Rattle.ap_border.specs.StageData.{GivesLine, HasInstr, InstrsAreRead, IsMatched, ReadsFile, ReadsInput, ReadsMem, ReadsRegister}

@@ -1,7 +1,6 @@
 -- What a run has by names is what its cycles' readings have by numbers.
 use Rattle.std.proofs.Common.{◌≡◌, ◌≢◌, ℕ, ◌+◌, ◌<◌, List, Option, Some, sym, ap, subst, ◌∙◌}
 use Rattle.std.specs.Prelude.{slice_get, unwrap_or}
-use Rattle.ap_net.specs.declared.cell.Wire.{Wire}
 use Rattle.ap_net.specs.declared.net.Instance.{Instance}
 use Rattle.ap_net.specs.declared.net.ModuleNet.{ModuleNet}
 use Rattle.ap_net.specs.Draft.{Draft}
@@ -10,8 +9,8 @@ use Rattle.ap_net.specs.Modules.{ModuleText, module_named, nets_of}
 use Rattle.ap_net.specs.Readings.{Reading}
 use Rattle.ap_net.specs.Wiring.{reset_of}
 use Rattle.ap_runs.specs.RunReadings.{RegisterGoes}
-use Rattle.ap_signals.specs.NetRuns.{NetRun, net_value, part_number, part_value}
-use Rattle.ap_border.specs.Named.{IsNamed, IsPartNet, IsReadBy, IsRegisterNamed, IsRegisterRead, NamesAreRead, PartsAreRead, RegistersAreRead}
+use Rattle.ap_signals.specs.NetRuns.{NetRun, part_number, part_value}
+use Rattle.ap_border.specs.Named.{IsReadBy, NamesAreRead, PartsAreRead, RegistersAreRead}
 
 pub names_are_read : NamesAreRead
 names_are_read d modules run c reading reads name w h j lt = ap (value_named run.flat.nets (run.values j)) (sym h.named) ∙ reads.nets j w.number h.net lt h.there

@@ -1,9 +1,8 @@
 -- All pieces together are the machine.
-use Rattle.std.proofs.Common.{◌≡◌, ℕ, zero, suc, ◌+◌, ◌-◌, ◌<◌, ◌≤◌, List, [], ◌∷◌, length, map, replicate, Option, Some, None, Bool, true, false, refl, sym, ap, subst, ◌∙◌, arith}
+use Rattle.std.proofs.Common.{◌≡◌, ℕ, zero, suc, ◌+◌, ◌-◌, ◌<◌, ◌≤◌, List, [], ◌∷◌, length, map, replicate, Some, Bool, true, false, refl, sym, ap, subst, ◌∙◌, arith}
 use Rattle.std.specs.Prelude.{◌==◌, slice_get}
 use Rattle.std.specs.List.{range_with_len}
 use Rattle.ap_bits.specs.declared.card.Card.{Card}
-use Rattle.ap_desc.specs.Clean.{FitsCards}
 use Rattle.ap_desc.specs.declared.design.Design.{Design}
 use Rattle.ap_desc.specs.declared.design.File.{File}
 use Rattle.ap_desc.specs.declared.design.Reg.{Reg}
@@ -19,23 +18,21 @@ use Rattle.ap_net.specs.Flat.{register_in}
 use Rattle.ap_net.specs.Readings.{Reading}
 use Rattle.ap_net.specs.Runs.{NetState, bit}
 use Rattle.ap_net.proofs.Renumbered.{some_within}
-use Rattle.ap_cycle.specs.Circuit.{EachStage, IsCircuit, IsQuiet, NextState, ProperBefore, ShowsBusyStage, Starts}
+use Rattle.ap_cycle.specs.Circuit.{EachStage, IsCircuit, IsQuiet, NextState, Starts}
 use Rattle.ap_cycle.specs.Signals.{Signals}
 use Rattle.ap_signals.specs.DesignOutside.{outside_of}
 use Rattle.ap_signals.specs.KeptNets.{HasRegisters}
-use Rattle.ap_signals.specs.NetRuns.{HasRegister, NetRun, cell_name, file_part, held_value, part_number, part_register, pc_name, place_name, reg_name, valid_name, word_name}
-use Rattle.ap_signals.specs.NetSignals.{is_slow_unit_of, net_signals}
+use Rattle.ap_signals.specs.NetRuns.{HasRegister, NetRun, cell_name, file_part, held_value, part_register, pc_name, place_name, reg_name, valid_name, word_name}
+use Rattle.ap_signals.specs.NetSignals.{net_signals}
 use Rattle.ap_signals.proofs.NetMachine.{net_keeps_machine, net_shows_machine, same_inputs}
 use Rattle.ap_ctl.specs.Border.{GivesBorder, ShowsControl, ValidGoesOn}
-use Rattle.ap_ctl.specs.Building.{is_on}
 use Rattle.ap_ctl.specs.Meaning.{Look, is_held}
 use Rattle.ap_ctl.proofs.Border.{gives_border}
 use Rattle.ap_store.specs.Cells.{CellsGoAlone}
 use Rattle.ap_border.specs.Control.{RunsControl, look_at}
 use Rattle.ap_border.specs.Fetch.{FetchGoes}
-use Rattle.ap_border.specs.Files.{HasFile}
 use Rattle.ap_border.specs.Flights.{FlightsGo, RunsFlights}
-use Rattle.ap_border.specs.Processor.{IsMachine, ProcessorsAreCircuits, ProcessorsAreTheMachine, ProcessorsHaveRegisters, RunsProcessor, ShowsData}
+use Rattle.ap_border.specs.Processor.{ProcessorsAreCircuits, ProcessorsAreTheMachine, ProcessorsHaveRegisters, RunsProcessor, ShowsData}
 use Rattle.ap_border.specs.SlowUnits.{ShowsWait}
 use Rattle.ap_border.specs.Storages.{RunsRegs}
 use Rattle.ap_border.proofs.ControlShown.{bit_says, control_is_shown, sees, stage_bit, valid_bits_go, valid_bits_start, valid_read}

@@ -1,6 +1,6 @@
 -- What registers and memories store.
-use Rattle.std.proofs.Common.{◌≡◌, ◌≢◌, ℕ, zero, suc, ◌+◌, ◌<◌, ◌≤◌, List, [], ◌∷◌, length, map, get_or, Option, Some, None, Bool, true, false, refl, sym, ap, subst, ◌∙◌, arith, inl, inr, ⊎_elim}
-use Rattle.std.specs.Prelude.{◌⊎◌, ◌==◌, if◌then◌else◌, codes, option_map, slice_get, slice_index, slice_index_or}
+use Rattle.std.proofs.Common.{◌≡◌, ℕ, zero, suc, ◌+◌, ◌<◌, ◌≤◌, List, [], ◌∷◌, length, map, Option, Some, None, Bool, true, false, refl, sym, ap, subst, ◌∙◌, arith, ⊎_elim}
+use Rattle.std.specs.Prelude.{◌==◌, if◌then◌else◌, option_map, slice_get, slice_index, slice_index_or}
 use Rattle.std.specs.Option.{option_map_or}
 use Rattle.std.proofs.lemmas.List.{length-map}
 use Rattle.std.proofs.lemmas.Option.{get_or_from_slice_get, slice_get-map}
@@ -17,16 +17,14 @@ use Rattle.ap_model.specs.declared.storage.WritePort.TheVariants as port
 use Rattle.ap_model.specs.PortForms.{GoesThroughPorts}
 use Rattle.ap_model.specs.Ports.{is_used}
 use Rattle.ap_net.specs.declared.net.FlatNet.{FlatNet}
-use Rattle.ap_net.specs.Outside.{mem_name}
 use Rattle.ap_net.specs.Readings.{Reading}
 use Rattle.ap_net.specs.Runs.{NetState, mem_after, mems_after}
 use Rattle.ap_net.proofs.Lists.{some_same}
 use Rattle.ap_net.proofs.Renumbered.{some_within}
 use Rattle.ap_cycle.specs.Signals.{Signals}
-use Rattle.ap_signals.specs.DesignOutside.{enable_name, index_name, mem_at, mem_shape, outside_of, value_name}
+use Rattle.ap_signals.specs.DesignOutside.{enable_name, index_name, mem_at, mem_shape, value_name}
 use Rattle.ap_signals.specs.NetRuns.{NetRun, held_value, net_value, reg_name}
-use Rattle.ap_signals.specs.NetSignals.{net_signals, net_write, write_index}
-use Rattle.ap_ctl.specs.Building.{is_on}
+use Rattle.ap_signals.specs.NetSignals.{net_signals, write_index}
 use Rattle.ap_border.specs.Storages.{IsOff, KeepsReg, PortsAreShown, RegsAreStored, RunsRegs, StoresRegs, WritesReg}
 use Rattle.ap_border.proofs.NamesRead.{names_are_read, registers_are_read}
 

@@ -1,6 +1,6 @@
 -- What the signals of a run show of units of several cycles: their ages, and which stages they keep busy.
-use Rattle.std.proofs.Common.{◌≡◌, ◌≢◌, ℕ, zero, suc, ◌+◌, ◌-◌, ◌<◌, ◌≤◌, ◌&&◌, ◌||◌, List, [], ◌∷◌, ◌++◌, length, map, Option, Some, None, Bool, true, false, refl, sym, ap, subst, ◌∙◌, arith, inl, inr, ⊎_elim}
-use Rattle.std.specs.Prelude.{◌⊎◌, ◌↔◌, ◌==◌, cond, filter, flat_map, if◌then◌else◌, codes, nat_lt, not, option_map, slice_get}
+use Rattle.std.proofs.Common.{◌≡◌, ℕ, zero, suc, ◌+◌, ◌-◌, ◌<◌, ◌≤◌, ◌&&◌, ◌||◌, List, [], ◌∷◌, ◌++◌, length, map, Option, Some, None, Bool, true, false, refl, sym, ap, subst, ◌∙◌, arith, inl, inr, ⊎_elim}
+use Rattle.std.specs.Prelude.{◌⊎◌, ◌==◌, cond, filter, flat_map, if◌then◌else◌, codes, nat_lt, not, option_map, slice_get}
 use Rattle.std.specs.List.{list_any, range_with_len}
 use Rattle.std.specs.Option.{option_map_or}
 use Rattle.std.proofs.lemmas.Bool.{cases_lt, lt-ltb, ltb-true}
@@ -16,23 +16,21 @@ use Rattle.ap_desc.specs.declared.design.Design.{Design}
 use Rattle.ap_desc.specs.declared.design.Instr.{Instr}
 use Rattle.ap_desc.specs.declared.design.Micro.{Micro}
 use Rattle.ap_desc.specs.declared.design.Unit.{Unit as Resource}
-use Rattle.ap_image.specs.declared.trace.Trace.{Trace}
 use Rattle.ap_model.specs.Cycles.{inputs_at}
 use Rattle.ap_model.specs.Fire.{instr_of, lines_in}
 use Rattle.ap_model.specs.Stalls.{has_memory_line}
 use Rattle.ap_model.specs.UnitUse.{IsUnitOf, asks, is_use_of, latency_of}
 use Rattle.ap_model.proofs.StableAsks.{found_in}
 use Rattle.ap_net.specs.declared.cell.Wire.{Wire}
-use Rattle.ap_net.specs.declared.net.ModuleNet.{ModuleNet}
 use Rattle.ap_net.specs.declared.net.Port.{Port}
 use Rattle.ap_net.specs.Modules.{ModuleText, module_named, nets_of, port_net, reg_net, wire_net}
 use Rattle.ap_net.specs.Readings.{Reading}
 use Rattle.ap_net.specs.Runs.{bit}
 use Rattle.ap_net.proofs.Lists.{get_left, some_same}
 use Rattle.ap_runs.proofs.Standing.{place_of}
-use Rattle.ap_unit.specs.Ages.{AreProper, IsHeld, IsProperAt, UnitInput, age_after, age_at}
-use Rattle.ap_unit.specs.Units.{IsUnit, busy_of, input_of, ports_by}
-use Rattle.ap_cycle.specs.Circuit.{ProperBefore, ShowsBusyStage, is_unit_busy}
+use Rattle.ap_unit.specs.Ages.{AreProper, IsHeld, UnitInput, age_after, age_at}
+use Rattle.ap_unit.specs.Units.{IsUnit, input_of, ports_by}
+use Rattle.ap_cycle.specs.Circuit.{ProperBefore, is_unit_busy}
 use Rattle.ap_cycle.specs.KeptStates.{is_asked}
 use Rattle.ap_cycle.specs.Signals.{Signals}
 use Rattle.ap_signals.specs.Asked.{asked_input}
@@ -44,11 +42,10 @@ use Rattle.ap_ctl.specs.Meaning.{Look, is_held}
 use Rattle.ap_ctl.specs.Nets.{Shows}
 use Rattle.ap_border.specs.Control.{RunsControl, look_at}
 use Rattle.ap_border.specs.Flights.{FlightsGo}
-use Rattle.ap_border.specs.Named.{IsPartNet}
-use Rattle.ap_border.specs.SlowUnits.{AgesAreShown, AskOperations, BusyIsShown, HasSlowUnit, HasSlowUnits, ShowsWait}
+use Rattle.ap_border.specs.SlowUnits.{AgesAreShown, AskOperations, BusyIsShown, HasSlowUnit, HasSlowUnits}
 use Rattle.ap_border.proofs.BusyByGo.{busy_goes_by_go}
 use Rattle.ap_border.proofs.ControlShown.{bit_says, control_is_shown, sees}
-use Rattle.ap_border.proofs.NamesRead.{part_is_read, parts_are_read}
+use Rattle.ap_border.proofs.NamesRead.{part_is_read}
 
 -- the ports of a unit of several cycles are its first nets
 port_at : (m : ModuleText) (card : Card) (w : ℕ) → card.latency ≡ WidthPlusOne → IsUnit m card w → (n : ℕ) (p : Port) → slice_get (ports_by WidthPlusOne (select_width card) w) n ≡ Some p → slice_get (nets_of m) n ≡ Some (port_net p)

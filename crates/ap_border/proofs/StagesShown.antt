@@ -7,7 +7,6 @@ use Rattle.std.proofs.lemmas.Bool.Decides.{Decides-eqb}
 use Rattle.ap_bits.specs.declared.card.Card.{Card}
 use Rattle.ap_bits.specs.Cards.{latency_at, operation_value}
 use Rattle.ap_desc.specs.Chains.{if_in_stage, maker_in, makers}
-use Rattle.ap_desc.specs.Designs.{width_at}
 use Rattle.ap_desc.specs.declared.design.Act.{Act}
 use Rattle.ap_desc.specs.declared.design.Act.TheVariants as act
 use Rattle.ap_desc.specs.declared.design.Arg.{Arg}
@@ -19,7 +18,6 @@ use Rattle.ap_desc.specs.declared.design.Unit.{Unit as Resource}
 use Rattle.ap_image.specs.declared.image.Image.{Image}
 use Rattle.ap_image.specs.declared.trace.Trace.{Trace}
 use Rattle.ap_model.specs.declared.state.Flight.{Flight}
-use Rattle.ap_model.specs.declared.storage.PortWrite.{PortWrite}
 use Rattle.ap_model.specs.declared.storage.WritePort.{WritePort}
 use Rattle.ap_model.specs.Cycles.{inputs_at}
 use Rattle.ap_model.specs.Fire.{act_value, instr_of, is_match, lines_in, target_of, unit_value}
@@ -29,12 +27,10 @@ use Rattle.ap_model.specs.PortForms.{line_write}
 use Rattle.ap_model.specs.Ports.{is_used_in}
 use Rattle.ap_model.specs.UnitUse.{IsUnitOf, asks, is_quick, is_use_of, latency_of, lines_ask}
 use Rattle.ap_model.proofs.StableAsks.{found_in}
-use Rattle.ap_net.specs.declared.cell.Wire.{Wire}
 use Rattle.ap_net.specs.Readings.{Reading}
 use Rattle.ap_net.specs.Runs.{bit}
 use Rattle.ap_net.proofs.Lists.{some_same}
 use Rattle.ap_unit.specs.Ages.{AreProper, age_at}
-use Rattle.ap_unit.specs.Slow.{IsAskedAt}
 use Rattle.ap_unit.specs.Units.{ShowsAge, input_of}
 use Rattle.ap_unit.proofs.Users.{asked_units_show}
 use Rattle.ap_cycle.specs.Circuit.{AsksOfWord, ProperBefore, ShowsWord}
@@ -44,14 +40,12 @@ use Rattle.ap_signals.specs.Asked.{asked_input}
 use Rattle.ap_signals.specs.NetRuns.{NetRun, word_name}
 use Rattle.ap_signals.specs.NetSignals.{is_slow_unit_of, net_signals}
 use Rattle.ap_runs.proofs.Standing.{place_of}
-use Rattle.ap_effect.specs.Border.{GivesTransfer, GivesWrite}
 use Rattle.ap_border.specs.Control.{RunsControl}
 use Rattle.ap_border.specs.Processor.{RunsProcessor, ShowsData}
-use Rattle.ap_border.specs.SlowUnits.{HasSlowUnit}
 use Rattle.ap_border.specs.StageData.{HasInstr, IsMatched}
-use Rattle.ap_border.specs.StageShown.{AsksUnit, DataAreShown, HasData}
+use Rattle.ap_border.specs.StageShown.{DataAreShown, HasData}
 use Rattle.ap_border.proofs.ControlShown.{later_word}
-use Rattle.ap_border.proofs.InstrsRead.{found_matches, matched, reads_lines}
+use Rattle.ap_border.proofs.InstrsRead.{found_matches, reads_lines}
 use Rattle.ap_border.proofs.NamesRead.{registers_are_read}
 use Rattle.ap_border.proofs.SlowUnitsShown.{age_is, ages_same, as_asked, asks_its_units, at_port, both, by_parts, go_is, proper_inputs, proper_same}
 

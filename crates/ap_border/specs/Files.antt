@@ -12,7 +12,7 @@ use Rattle.ap_model.specs.Stored.{file_cell_value}
 use Rattle.ap_net.specs.declared.cell.Wire.{Wire}
 use Rattle.ap_net.specs.declared.net.Instance.{Instance}
 use Rattle.ap_net.specs.Draft.{Draft}
-use Rattle.ap_net.specs.Modules.{IsModule, ModuleText, module_named}
+use Rattle.ap_net.specs.Modules.{ModuleText, module_named}
 use Rattle.ap_net.specs.Readings.{Carries, Reading}
 use Rattle.ap_signals.specs.DesignOutside.{enable_name, index_name, value_name}
 use Rattle.ap_signals.specs.NetRuns.{NetRun, file_part}

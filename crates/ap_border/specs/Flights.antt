@@ -14,7 +14,7 @@ use Rattle.ap_net.specs.Readings.{Reading}
 use Rattle.ap_net.specs.Runs.{Runs}
 use Rattle.ap_cycle.specs.Circuit.{EachStage, Passes, Stays}
 use Rattle.ap_signals.specs.NetRuns.{NetRun, pc_name, place_name, slot_name, word_name}
-use Rattle.ap_signals.specs.NetSignals.{by_stage, net_signals, stage_word}
+use Rattle.ap_signals.specs.NetSignals.{by_stage, net_signals}
 use Rattle.ap_pipe.specs.declared.table.Home.{Home}
 use Rattle.ap_ctl.specs.Border.{ValidGoesOn}
 use Rattle.ap_ctl.specs.Building.{is_on}

@@ -1,9 +1,8 @@
 -- All data of the stages: besides the values of operands, what is asked of units of several cycles and what they give, what is written and
 -- taken, and the locals that leave.
-use Rattle.std.specs.Prelude.{◌≡◌, ℕ, ◌+◌, ◌-◌, ◌<◌, ◌≤◌, false, true, List, length, slice_get, Option, Some, None}
+use Rattle.std.specs.Prelude.{◌≡◌, ℕ, ◌+◌, ◌-◌, ◌<◌, ◌≤◌, false, true, List, length, slice_get, Some}
 use Rattle.ap_bits.specs.declared.card.Card.{Card}
 use Rattle.ap_desc.specs.Chains.{maker_in}
-use Rattle.ap_desc.specs.declared.design.Act.{Act}
 use Rattle.ap_desc.specs.declared.design.Act.TheVariants as act
 use Rattle.ap_desc.specs.declared.design.Arg.{Arg}
 use Rattle.ap_desc.specs.declared.design.Arg.TheVariants as arg
@@ -18,7 +17,6 @@ use Rattle.ap_model.specs.Fire.{instr_of, lines_in}
 use Rattle.ap_model.specs.FlightLocals.{is_live}
 use Rattle.ap_model.specs.Ports.{is_used_in}
 use Rattle.ap_model.specs.UnitUse.{asks, lines_ask}
-use Rattle.ap_net.specs.declared.cell.Wire.{Wire}
 use Rattle.ap_net.specs.Readings.{Reading}
 use Rattle.ap_signals.specs.NetRuns.{NetRun}
 use Rattle.ap_signals.specs.NetSignals.{is_slow_unit_of, net_signals}
