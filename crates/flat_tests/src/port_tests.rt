@@ -1,5 +1,5 @@
 //! Which ports are those of an outside, and which outputs an input is looked up by.
-use crate::netlists::{PortRow, fault_of, top_with};
+use crate::netlists::{PortRow, Said, said_of, text_with};
 use ap_flat::FlatFault;
 use std::test::Fail;
 
@@ -136,12 +136,12 @@ const NINE: &[&str] = &[
 fn ports_of_an_outside(rt: HostRuntime) -> Result<(), Fail> {
     let alloc = rt.alloc();
     for ports in DUE {
-        let net = top_with(alloc, ports, &[])?;
-        assert_eq!(rt; fault_of(alloc, &net)?, None);
+        let text = text_with(alloc, ports, &[])?;
+        assert_eq!(rt; said_of(alloc, &text), Said::Opened);
     }
     for ports in NOT_DUE {
-        let net = top_with(alloc, ports, &[])?;
-        assert_eq!(rt; fault_of(alloc, &net)?, Some(FlatFault::BadPorts));
+        let text = text_with(alloc, ports, &[])?;
+        assert_eq!(rt; said_of(alloc, &text), Said::Not(FlatFault::BadPorts));
     }
     Ok(())
 }
@@ -159,13 +159,13 @@ fn at_most_eight_inputs(rt: HostRuntime) -> Result<(), Fail> {
         }
         ports.push(STALL)?;
         ports.push(KILL)?;
-        let net = top_with(alloc, &ports, &[])?;
+        let text = text_with(alloc, &ports, &[])?;
         let due = if count <= 8 {
-            None
+            Said::Opened
         } else {
-            Some(FlatFault::BadPorts)
+            Said::Not(FlatFault::BadPorts)
         };
-        assert_eq!(rt; fault_of(alloc, &net)?, due);
+        assert_eq!(rt; said_of(alloc, &text), due);
     }
     Ok(())
 }
@@ -225,13 +225,13 @@ const LOOKED_UP: &[(&[PortRow], &[(usize, usize)], bool)] = &[
 fn loops_through_the_outside(rt: HostRuntime) -> Result<(), Fail> {
     let alloc = rt.alloc();
     for (ports, copies, looped) in LOOKED_UP {
-        let net = top_with(alloc, ports, copies)?;
+        let text = text_with(alloc, ports, copies)?;
         let due = if *looped {
             FlatFault::Loop
         } else {
             FlatFault::BadPorts
         };
-        assert_eq!(rt; fault_of(alloc, &net)?, Some(due));
+        assert_eq!(rt; said_of(alloc, &text), Said::Not(due));
     }
     Ok(())
 }
