@@ -3,6 +3,7 @@ use crate::example_tests::{b1, b3};
 use crate::texts::{gate, small};
 use crate::top_text::top;
 use crate::unit_texts::units;
+use ap_flat::flatten;
 use ap_vr::{faultless_modules_build, read_back, read_modules, read_named, texts_spell_one};
 use ap_vw::write;
 use std::alloc::Global;
@@ -39,6 +40,25 @@ fn texts_come_back(rt: HostRuntime) -> Result<(), Fail> {
     }
     texts_spell_one();
     faultless_modules_build();
+    Ok(())
+}
+
+/// Whether a text is read back and its netlist is opened.
+fn is_opened(alloc: Global, text: &[u8]) -> bool {
+    match read_back(alloc, text) {
+        Ok(net) => flatten(alloc, &net).is_ok(),
+        Err(_fault) => false,
+    }
+}
+
+#[test]
+fn texts_are_opened(rt: HostRuntime) -> Result<(), Fail> {
+    let alloc = rt.alloc();
+    let larger = joined(alloc, units(), top())?;
+    for text in [b1(), b3(), small(), larger.as_str()] {
+        let opened = is_opened(alloc, text.as_bytes());
+        assert!(rt; opened);
+    }
     Ok(())
 }
 
