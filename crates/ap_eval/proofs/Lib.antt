@@ -1,2 +1,5 @@
 pub mod Ordering
 pub mod Going
+pub mod CellValues
+pub mod Computing
+pub mod MemoryPorts

@@ -4,6 +4,9 @@ use Rattle.ap_image.specs.declared.shape.MemShape.{MemShape}
 use Rattle.ap_image.specs.FitsShape.{WordsFit}
 use Rattle.ap_net.specs.declared.net.Next.{Next}
 use Rattle.ap_net.specs.declared.cell.Cell.TheVariants as cell
+use Rattle.ap_net.specs.declared.net.FlatNet.{FlatNet}
+use Rattle.ap_net.specs.declared.net.Role.TheVariants as role
+use Rattle.ap_net.specs.Registers.{held}
 use Rattle.ap_net.specs.Outside.{Outside}
 use Rattle.ap_net.specs.Runs.{NetState}
 use Rattle.ap_net.specs.Answering.{StateFits}
@@ -32,11 +35,12 @@ bench_state f values memories shown spots = record {
 abbrev pub rooms_by : Outside → List ℕ
 rooms_by o = 2 ^ o.address ∷ map (λ (m : MemShape). 2 ^ m.address) o.mems
 
--- There is a value for each net, and constants have theirs; the memories have a word for each address, and what they and the registers
+-- There is a value for each net, and constants have theirs; a register that nothing drives has 0; the memories have a word for each address, and what they and the registers
 -- hold fits.
 pub record IsReady (f : FlatParts) (values : List ℕ) (memories : List Cells) : Type 0 where
   pub long : length values ≡ length f.net.nets
   pub constants : (n c : ℕ) → slice_get f.drivers n ≡ Some (driver.Equation (cell.Const c)) → slice_index values n ≡ c
+  pub registers : (n : ℕ) (net : FlatNet) (reset : ℕ) → slice_get f.net.nets n ≡ Some net → net.role ≡ role.Register reset → slice_index values n ≡ held f.net.nexts (net_state f values memories).registers n
   pub rooms : rooms_of memories ≡ rooms_by f.outside
   pub code : WordsFit (first_words (words_of memories)) f.outside.address f.outside.word
   pub fits : StateFits f.outside f.net (net_state f values memories)

@@ -12,6 +12,10 @@ use Rattle.ap_net.specs.Flat.{reset_in}
 use Rattle.ap_flat.specs.Flats.{FlatParts}
 use Rattle.ap_flat.specs.declared.driver.Driver.{Driver}
 use Rattle.ap_flat.specs.declared.driver.Driver.TheVariants as driver
+use Rattle.ap_image.specs.declared.trace.TraceLine.{TraceLine}
+use Rattle.ap_image.specs.Words.{with_word}
+use Rattle.ap_net.specs.Runs.{bit}
+use Rattle.ap_net.specs.declared.net.Next.{Next}
 use Rattle.ap_eval.specs.Cells.{Cells, word_in}
 use Rattle.ap_eval.specs.declared.op.Op.{Op}
 use Rattle.ap_eval.specs.declared.op.Shape.{Shape}
@@ -21,7 +25,7 @@ use Rattle.ap_eval.specs.declared.op.Shape.TheVariants as shape
 abbrev pub shape_value : (ℕ → ℕ) → (ℕ → ℕ → ℕ) → Shape → ℕ
 shape_value read load (shape.Not a mask) = mask - read a
 shape_value read load (shape.Add a b mask) = bit_and ((read a + read b) % 2 ^ 64) mask
-shape_value read load (shape.Sub a b mask) = bit_and ((read a + 2 ^ 64 - read b) % 2 ^ 64) mask
+shape_value read load (shape.Sub a b mask) = bit_and ((read a + (2 ^ 64 - read b)) % 2 ^ 64) mask
 shape_value read load (shape.And a b) = bit_and (read a) (read b)
 shape_value read load (shape.Or a b) = bit_or (read a) (read b)
 shape_value read load (shape.Xor a b) = bit_xor (read a) (read b)
@@ -161,3 +165,30 @@ first_value f n = first_by (slice_get f.drivers n) (reset_in f.net n)
 pub record IsPlan (f : FlatParts) (roots : List ℕ) (ops : List Op) : Type 0 where
   pub rooted : AreRoots f.drivers roots
   pub listed : ops ≡ ops_of f roots f.order
+
+-- the values with those of a trace's line at the ports of the inputs, from number n on
+abbrev pub put_from : ℕ → List ℕ → List ℕ → List ℕ
+put_from n [] values = values
+put_from n (x ∷ xs) values = put_from (n + 1) xs (set values n x)
+
+abbrev pub with_inputs : TraceLine → List ℕ → List ℕ
+with_inputs line values = put_from 3 line.ports (set values 2 (bit line.wait))
+
+-- the values with these at the registers
+abbrev pub give_all : List Next → List ℕ → List ℕ → List ℕ
+give_all [] taken values = values
+give_all (x ∷ nexts) [] values = values
+give_all (x ∷ nexts) (y ∷ taken) values = give_all nexts taken (set values x.register.number y)
+
+-- a data memory after the edge, whose ports begin with this one
+abbrev pub cells_after : (ℕ → ℕ) → ℕ → Cells → Cells
+cells_after read port m = record { room = m.room; words = if read (port + 2) == 1 then with_word m.words (read (port + 3)) (read (port + 4)) else m.words }
+
+abbrev pub data_after : (ℕ → ℕ) → ℕ → List Cells → List Cells
+data_after read port [] = []
+data_after read port (m ∷ memories) = cells_after read port m ∷ data_after read (port + 5) memories
+
+-- the code memory isn't written
+abbrev pub memories_after : (ℕ → ℕ) → ℕ → List Cells → List Cells
+memories_after read port [] = []
+memories_after read port (m ∷ memories) = m ∷ data_after read port memories

@@ -1,4 +1,5 @@
-use Rattle.ap_eval.proofs.Going.{goes_on}
+use Rattle.ap_eval.proofs.Computing.{all_computed}
+use Rattle.ap_eval.proofs.MemoryPorts.{gives_word}
 use Rattle.ap_eval.proofs.bench.benches_follow_runs.Goals as goal
 
 pub returns-clause-steps : goal.returns-clause-steps
