@@ -33,12 +33,12 @@ pub given_fits : (width x : ℕ) (q : Option ℕ) → ((y : ℕ) → q ≡ Some 
 given_fits width x None f g = g
 given_fits width x (Some y) f g = f y refl
 
-not_given : (x : ℕ) (q : Option ℕ) → ((y : ℕ) → q ≡ Some y → ⊥) → unwrap_or q x ≡ x
+pub not_given : (x : ℕ) (q : Option ℕ) → ((y : ℕ) → q ≡ Some y → ⊥) → unwrap_or q x ≡ x
 not_given x None f = refl
 not_given x (Some y) f = absurd (f y refl)
 
 -- a port is no register
-no_register : (p : Port) (reset : ℕ) → (port_net p).role ≡ role.Register reset → ⊥
+pub no_register : (p : Port) (reset : ℕ) → (port_net p).role ≡ role.Register reset → ⊥
 no_register p reset e = go p.output e
   where
     go : (b : Bool) → (if b then role.Output else role.Input) ≡ role.Register reset → ⊥

@@ -3,3 +3,4 @@ pub mod Going
 pub mod CellValues
 pub mod Computing
 pub mod MemoryPorts
+pub mod Beginning

@@ -43,14 +43,11 @@ memory_port first count n m h = go (n == 1) (nat_le first n && nat_lt n (first +
 pub memory_found : (first count k : ℕ) → 3 ≤ first → k < count → memory_at first count (first + second k) ≡ Some (suc k)
 memory_found first count k low lt = go ((first + second k) == 1) (nat_le first (first + second k) && nat_lt (first + second k) (first + 5 * count) && (first + second k - first) % 5 == 1) refl refl
   where
-    s : second k ≡ 5 * k + 1
-    s = second_is k
-
     go : (a b : Bool) → ((first + second k) == 1) ≡ a → (nat_le first (first + second k) && nat_lt (first + second k) (first + 5 * count) && (first + second k - first) % 5 == 1) ≡ b
         → (if a then Some 0 else (if b then Some ((first + second k - first) / 5 + 1) else None)) ≡ Some (suc k)
     go true b p q = let e : first + second k ≡ 1 = (Decides-eqb (first + second k) 1).0 p in absurd (omega arith)
-    go false true p q = let e : (first + second k - first) / 5 + 1 ≡ suc k = omega arith in ap Some e
-    go false false p q = absurd (grind (arith, nat_tests))
+    go false true p q = let d : second k ≡ 5 * k + 1 = second_is k in let e : (first + second k - first) / 5 + 1 ≡ suc k = omega arith in ap Some e
+    go false false p q = absurd (let e : second k ≡ 5 * k + 1 = second_is k in grind (arith, nat_tests))
 
 -- Lists by the number of a memory. -----------------------------------------------------------------------------------------
 
@@ -64,7 +61,7 @@ gives_word read first (m ∷ ms) (w ∷ mems) (suc k) words fits at =
     let e : first + 5 + 5 * k ≡ first + 5 * suc k = omega arith in
     gives_word read (first + 5) ms mems k words fits.1 at ∙ ap (λ n. Some (slice_index words (read n))) e
 
-pub looks_first : (first : ℕ) (ms : List MemShape) (k : ℕ) → k < length ms → slice_get (mem_looks first ms) (second k) ≡ Some (first + 5 * k ∷ [])
+pub looks_first : (first : ℕ) (ms : List MemShape) (k : ℕ) → k < length ms → slice_get (mem_looks first ms) (second k) ≡ Some ((first + 5 * k) ∷ [])
 looks_first first [] k lt = absurd (omega arith)
 looks_first first (m ∷ ms) zero lt = let e : first ≡ first + 5 * 0 = omega arith in ap (λ n. Some (n ∷ [])) e
 looks_first first (m ∷ ms) (suc k) lt = let e : first + 5 + 5 * k ≡ first + 5 * suc k = omega arith in looks_first (first + 5) ms k (omega arith) ∙ ap (λ n. Some (n ∷ [])) e
