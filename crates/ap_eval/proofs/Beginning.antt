@@ -23,7 +23,7 @@ use Rattle.ap_net.specs.Outside.{Outside, InPort, Group, FilePort, input, input_
 use Rattle.ap_net.specs.Registers.{held}
 use Rattle.ap_net.specs.Runs.{NetState, bit}
 use Rattle.ap_net.specs.Sources.{Takes}
-use Rattle.ap_net.specs.Answering.{first_mem_port, mem_gives}
+use Rattle.ap_net.specs.Answering.{first_mem_port, mem_gives, mem_looks, port_looks}
 use Rattle.ap_net.proofs.Lists.{All-at, Each-at, get_left, get_right, get_either, some_same}
 use Rattle.ap_net.proofs.Answered.{behind, ports_split, taken_at}
 use Rattle.ap_net.proofs.Fits.{length-plain}
@@ -33,12 +33,12 @@ use Rattle.ap_flat.specs.declared.driver.Driver.{Driver}
 use Rattle.ap_flat.specs.declared.driver.Driver.TheVariants as driver
 use Rattle.ap_flat.proofs.Looking.{port_low}
 use Rattle.ap_eval.specs.Cells.{Cells, first_words, other_words, words_of, word_in}
-use Rattle.ap_eval.specs.Ops.{AreRoots, load_of, memory_at, net_shape, driver_shape, cell_shape, put_from, shape_of_net, width_of, with_inputs}
+use Rattle.ap_eval.specs.Ops.{AreRoots, load_of, memory_at, computed, ops_of, net_shape, driver_shape, cell_shape, put_from, shape_of_net, width_of, with_inputs}
 use Rattle.ap_eval.specs.BenchViews.{IsReady, net_state}
 use Rattle.ap_eval.proofs.Ordering.{looked, looks_below, rank}
 use Rattle.ap_eval.proofs.Going.{given, gives, take, not_given, no_register, port_at, whole_port}
-use Rattle.ap_eval.proofs.Computing.{AllAnswer, Answers, Done, driver_at, equation, holds, memory_of, operand_lower, stands_low}
-use Rattle.ap_eval.proofs.MemoryPorts.{IsData, gives_word, input_is_second, looks_first, memory_found, memory_port, second, second_is}
+use Rattle.ap_eval.proofs.Computing.{AllAnswer, Answers, all_computed, Done, driver_at, equation, holds, memory_of, operand_lower, stands_low}
+use Rattle.ap_eval.proofs.MemoryPorts.{IsData, gives_word, input_is_second, looks_first, memory_found, memory_port, mems_long, second, second_is, second_port}
 
 pub put_from-length : (n : ℕ) (xs values : List ℕ) → length (put_from n xs values) ≡ length values
 put_from-length n [] values = refl
@@ -91,6 +91,23 @@ some_in : {X : Type 0} (xs : List X) (n : ℕ) → n < length xs → (x : X) × 
 some_in [] n lt = absurd (omega arith)
 some_in (x ∷ xs) zero lt = (x, refl)
 some_in (x ∷ xs) (suc n) lt = some_in xs n (omega arith)
+
+-- the words of the memories as they are loaded
+word_at : (cells : List Cells) (k : ℕ) (words : List ℕ) → slice_get (other_words (words_of cells)) k ≡ Some words → (a : ℕ) → load_of cells (suc k) a ≡ slice_index words a
+word_at [] k words at a = cc
+word_at (c ∷ cells) k words at a = among cells k at
+  where
+    among : (cells : List Cells) (k : ℕ) → slice_get (words_of cells) k ≡ Some words → word_in (slice_get cells k) a ≡ slice_index words a
+    among [] k at = cc
+    among (c ∷ cells) zero at = let same : c.words ≡ words = cc in ap (λ (l : List ℕ). slice_index l a) same
+    among (c ∷ cells) (suc k) at = among cells k at
+
+code_word : (cells : List Cells) (a : ℕ) → load_of cells 0 a ≡ slice_index (first_words (words_of cells)) a
+code_word [] a = refl
+code_word (c ∷ cells) a = refl
+
+abbrev the_list : List ℕ
+the_list = []
 
 module _ (f : FlatParts) (is : IsFlattened f) where
   abbrev o : Outside
@@ -310,9 +327,51 @@ module _ (f : FlatParts) (is : IsFlattened f) where
 
         -- Memories. --------------------------------------------------------------------------------------------------------
 
-        word_at : (cells : List Cells) (k : ℕ) (words : List ℕ) → slice_get (other_words (words_of cells)) k ≡ Some words → (a : ℕ) → load_of cells (suc k) a ≡ slice_index words a
-        word_at [] k words at a = cc
-        word_at (c ∷ cells) k words at a = go (slice_get cells k) refl
+        answers_code : Answers f is roots rooted v solves (load_of memories) 1 0
+        answers_code =
+            let low : 1 < count = port_count 1 _ refl in
+            record {
+              address = port_count 0 _ refl;
+              earlier = (looks_below f is 1 0 (looked o is.outside.mems 1 (0 ∷ []) refl).0).1;
+              own_root = source_root 1 _ (whole_port f is 1 _ refl) tt low;
+              word = takes 1 _ (whole_port f is 1 _ refl) tt ∙ sym (code_word memories (slice_index v 0));
+            }
+
+        answers_data : (k : ℕ) → k < length o.mems → Answers f is roots rooted v solves (load_of memories) (first_mem_port o + second k) (suc k)
+        answers_data k lt =
+            let n : ℕ = suc (suc (suc (length o.inputs + second k))) in
+            let e : n ≡ first_mem_port o + second k = omega arith in
+            let il : length (input_ports o.inputs) ≡ length o.inputs = inputs_long o.inputs in
+            let pl : length line.ports ≡ length o.inputs = ports_long in
+            let m = second_port o.mems (behind o) k lt in
+            let at : slice_get (ports_of o) n ≡ Some (input (mem_name m.0 (codes "rd")) (m.0).width) =
+            ap (λ (l : List Port). slice_get l n) (ports_split o) ∙ ap (λ j. slice_get (input_ports o.inputs ++ (mem_ports o.mems ++ behind o)) (j + second k)) (sym il) ∙ get_right (input_ports o.inputs) (mem_ports o.mems ++ behind o) (second k) ∙ m.1 in
+            let whole = whole_port f is n (input (mem_name m.0 (codes "rd")) (m.0).width) at in
+            let low : n < count = port_count n _ at in
+            let ml : length (map (λ (p : InPort). the_list) o.inputs) ≡ length o.inputs = simp length-map in
+            let look : slice_get (port_looks o) n ≡ Some ((first_mem_port o + 5 * k) ∷ []) =
+            ap (λ j. slice_get (map (λ (p : InPort). the_list) o.inputs ++ mem_looks (first_mem_port o) o.mems) (j + second k)) (sym ml) ∙ get_right (map (λ (p : InPort). the_list) o.inputs) (mem_looks (first_mem_port o) o.mems) (second k) ∙ looks_first (first_mem_port o) o.mems k lt in
+            let below = looks_below f is n (first_mem_port o + 5 * k) (looked o is.outside.mems n ((first_mem_port o + 5 * k) ∷ []) look).0 in
+            let s : second k ≡ 5 * k + 1 = second_is k in
+            let before : first_mem_port o + 5 * k ≡ n - 1 = omega arith in
+            let wl : length old.mems ≡ length o.mems = mems_long old.mems o.mems ready.fits.mems in
+            let words = some_in old.mems k (omega arith) in
+            let gives_at : slice_get (line.ports ++ mem_part) (length o.inputs + second k) ≡ Some (slice_index words.0 (slice_index v (first_mem_port o + 5 * k))) =
+            ap (λ j. slice_get (line.ports ++ mem_part) (j + second k)) (sym pl) ∙ get_right line.ports mem_part (second k) ∙ gives_word (slice_index v) (first_mem_port o) o.mems old.mems k words.0 ready.fits.mems words.1 in
+            subst (λ j. Answers f is roots rooted v solves (load_of memories) j (suc k)) e (record {
+              address = subst (λ j. j < count) before below.0;
+              earlier = subst (λ j. rank f is j < rank f is n) before below.1;
+              own_root = source_root n _ whole tt low;
+              word = takes n _ whole tt ∙ ap (λ q. unwrap_or q (held f.net.nexts old.registers n)) gives_at ∙ ap (λ j. slice_index words.0 (slice_index v j)) before ∙ sym (word_at memories k words.0 words.1 (slice_index v (n - 1)));
+            })
+
+        pub answers : AllAnswer f is roots rooted v solves (load_of memories)
+        answers n m lt at = go (memory_port (first_mem_port o) (length o.mems) n m at)
           where
-            go : (q : Option Cells) → slice_get cells k ≡ q → word_in q a ≡ slice_index words a
-            go q e = ?
+            go : ((n ≡ 1) × (m ≡ 0)) ⊎ IsData (first_mem_port o) (length o.mems) n m → Answers f is roots rooted v solves (load_of memories) n m
+            go (inl e) = subst (λ j. Answers f is roots rooted v solves (load_of memories) j m) (sym e.0) (subst (Answers f is roots rooted v solves (load_of memories) 1) (sym e.1) answers_code)
+            go (inr d) = subst (λ j. Answers f is roots rooted v solves (load_of memories) j m) (sym d.n_is) (subst (Answers f is roots rooted v solves (load_of memories) (first_mem_port o + second d.k)) (sym d.m_is) (answers_data d.k d.below))
+
+        -- after the operations each net's value stands at its root
+        pub computed_all : (n : ℕ) → n < count → slice_index (computed (load_of memories) (ops_of f roots f.order) begun) (root n) ≡ slice_index v n
+        computed_all n lt = all_computed f is roots rooted v solves (load_of memories) answers begun done_before n lt

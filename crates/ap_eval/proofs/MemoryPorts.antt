@@ -82,3 +82,14 @@ input_is_second (m ∷ ms) rest outs (suc (suc (suc (suc zero)))) p at is = cc
 input_is_second (m ∷ ms) rest outs (suc (suc (suc (suc (suc j))))) p at is =
     let s = input_is_second ms rest outs j p at is in
     record { k = suc s.k; below = let lt : s.k < length ms = s.below in omega arith; j_is = ap (λ n. suc (suc (suc (suc (suc n))))) s.j_is }
+
+pub second_port : (ms : List MemShape) (rest : List Port) (k : ℕ) → k < length ms → (m : MemShape) × (slice_get (mem_ports ms ++ rest) (second k) ≡ Some (input (mem_name m (codes "rd")) m.width))
+second_port [] rest k lt = absurd (omega arith)
+second_port (m ∷ ms) rest zero lt = (m, refl)
+second_port (m ∷ ms) rest (suc k) lt = second_port ms rest k (omega arith)
+
+pub mems_long : (mems : List (List ℕ)) (ms : List MemShape) → MemsFit mems ms → length mems ≡ length ms
+mems_long [] [] h = refl
+mems_long [] (m ∷ ms) h = absurd h
+mems_long (words ∷ mems) [] h = absurd h
+mems_long (words ∷ mems) (m ∷ ms) h = ap suc (mems_long mems ms h.1)
