@@ -69,7 +69,7 @@ groups_out (g ∷ groups) = go g.port (groups_out groups)
     go None rest = (refl, (refl, rest))
     go (Some file) rest = (refl, (refl, (refl, rest)))
 
-behind_out : (o : Outside) (i : ℕ) (p : Port) → slice_get (behind o) i ≡ Some p → p.output ≡ true
+pub behind_out : (o : Outside) (i : ℕ) (p : Port) → slice_get (behind o) i ≡ Some p → p.output ≡ true
 behind_out o i p at = All-at (λ (q : Port). q.output ≡ true) (behind o) i p (refl, (refl, groups_out o.groups)) at
 
 values_long : (values : List ℕ) (ps : List InPort) → ValuesFit values (map (λ (p : InPort). p.width) ps) → length values ≡ length ps
@@ -87,7 +87,7 @@ inputs_long : (ps : List InPort) → length (input_ports ps) ≡ length ps
 inputs_long [] = refl
 inputs_long (p ∷ ps) = ap suc (inputs_long ps)
 
-some_in : {X : Type 0} (xs : List X) (n : ℕ) → n < length xs → (x : X) × (slice_get xs n ≡ Some x)
+pub some_in : {X : Type 0} (xs : List X) (n : ℕ) → n < length xs → (x : X) × (slice_get xs n ≡ Some x)
 some_in [] n lt = absurd (omega arith)
 some_in (x ∷ xs) zero lt = (x, refl)
 some_in (x ∷ xs) (suc n) lt = some_in xs n (omega arith)
@@ -119,7 +119,7 @@ module _ (f : FlatParts) (is : IsFlattened f) where
   abbrev count : ℕ
   count = length f.net.nets
 
-  port_count : (n : ℕ) (p : Port) → slice_get (ports_of o) n ≡ Some p → n < count
+  pub port_count : (n : ℕ) (p : Port) → slice_get (ports_of o) n ≡ Some p → n < count
   port_count n p at = port_low (ports_of o) f.net.nets is.ports n p at
 
   -- an input is a port
@@ -139,7 +139,7 @@ module _ (f : FlatParts) (is : IsFlattened f) where
       go (inr past) = absurd (is.ports.within past.0 net past.2 enters)
 
   -- no equation drives a source
-  source_free : (n : ℕ) (net : ModuleNet) (c : Cell) → slice_get nets n ≡ Some net → IsSource net.role → slice_get f.drivers n ≡ Some (driver.Equation c) → ⊥
+  pub source_free : (n : ℕ) (net : ModuleNet) (c : Cell) → slice_get nets n ≡ Some net → IsSource net.role → slice_get f.drivers n ≡ Some (driver.Equation c) → ⊥
   source_free n net c at source driven =
       let d = equation f is n c driven in
       let free : IsFree nets d.equation.to.number = All-at (λ (a : Assign). IsFree nets a.to.number) (equations f.net) d.place d.equation is.opened.flat.free d.among in
@@ -154,7 +154,7 @@ module _ (f : FlatParts) (is : IsFlattened f) where
     abbrev root : ℕ → ℕ
     root n = slice_index roots n
 
-    source_root : (n : ℕ) (net : ModuleNet) → slice_get nets n ≡ Some net → IsSource net.role → n < count → root n ≡ n
+    pub source_root : (n : ℕ) (net : ModuleNet) → slice_get nets n ≡ Some net → IsSource net.role → n < count → root n ≡ n
     source_root n net at source lt = let d = driver_at f is n lt in go d.0 d.1
       where
         go : (by : Driver) → slice_get f.drivers n ≡ Some by → root n ≡ n
@@ -163,13 +163,13 @@ module _ (f : FlatParts) (is : IsFlattened f) where
         go (driver.Equation c) there = absurd (source_free n net c at source there)
 
     module _ (values : List ℕ) (memories : List Cells) (ready : IsReady f values memories) (line : TraceLine) (fits : LineFitsShape line (shape_of o)) where
-      abbrev old : NetState
+      abbrev pub old : NetState
       old = net_state f values memories
 
-      abbrev code : List ℕ
+      abbrev pub code : List ℕ
       code = first_words (words_of memories)
 
-      abbrev begun : List ℕ
+      abbrev pub begun : List ℕ
       begun = with_inputs line values
 
       ports_long : length line.ports ≡ length o.inputs
@@ -256,17 +256,24 @@ module _ (f : FlatParts) (is : IsFlattened f) where
                 let clash : None ≡ Some (suc s.k) = sym none ∙ ap (memory_of f is roots rooted) n_is ∙ found in
                 cc
 
-        -- a register holds what it held
-        at_register : (n : ℕ) (net : FlatNet) (reset : ℕ) → slice_get f.net.nets n ≡ Some net → net.role ≡ role.Register reset → slice_index begun n ≡ slice_index v n
-        at_register n net reset at is_reg =
+        -- no port is a register
+        no_port : (n : ℕ) (net : FlatNet) (reset : ℕ) → slice_get f.net.nets n ≡ Some net → net.role ≡ role.Register reset → (p : Port) → slice_get (ports_of o) n ≡ Some p → ⊥
+        no_port n net reset at is_reg p there =
             let plain : slice_get nets n ≡ Some (plain_net net) = slice_get-map plain_net f.net.nets n ∙ ap (option_map plain_net) at in
-            let none : (p : Port) → slice_get (ports_of o) n ≡ Some p → ⊥ = λ p there. no_register p reset (let same : port_net p ≡ plain_net net = some_same (sym (whole_port f is n p there) ∙ plain) in ap (λ (y : ModuleNet). y.role) same ∙ is_reg) in
-            begun_free n (λ p there enters. none p there)
-            ∙ ready.registers n net reset at is_reg
-            ∙ sym (takes n (plain_net net) plain (subst IsSource (sym is_reg) tt)
+            no_register p reset (let same : port_net p ≡ plain_net net = some_same (sym (whole_port f is n p there) ∙ plain) in ap (λ (y : ModuleNet). y.role) same ∙ is_reg)
+
+        -- a register has in the solution what it held
+        pub register_was : (n : ℕ) (net : FlatNet) (reset : ℕ) → slice_get f.net.nets n ≡ Some net → net.role ≡ role.Register reset → slice_index v n ≡ slice_index values n
+        register_was n net reset at is_reg =
+            let plain : slice_get nets n ≡ Some (plain_net net) = slice_get-map plain_net f.net.nets n ∙ ap (option_map plain_net) at in
+            takes n (plain_net net) plain (subst IsSource (sym is_reg) tt)
             ∙ not_given (held f.net.nexts old.registers n) (slice_get (gives f is code line old ready.code.each fits ready.fits (slice_index v)) n) (λ y there.
             let t = taken_at (ports_of o) (gives f is code line old ready.code.each fits ready.fits (slice_index v)) (take f is code line old ready.code.each fits ready.fits (slice_index v)) n y there in
-            none t.0 t.1))
+            no_port n net reset at is_reg t.0 t.1)
+            ∙ sym (ready.registers n net reset at is_reg)
+
+        at_register : (n : ℕ) (net : FlatNet) (reset : ℕ) → slice_get f.net.nets n ≡ Some net → net.role ≡ role.Register reset → slice_index begun n ≡ slice_index v n
+        at_register n net reset at is_reg = begun_free n (λ p there enters. no_port n net reset at is_reg p there) ∙ sym (register_was n net reset at is_reg)
 
         -- no memory's word stands at a net without an operation
         no_memory : (n : ℕ) → shape_of_net f roots n ≡ None → memory_of f is roots rooted n ≡ None

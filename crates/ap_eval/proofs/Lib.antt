@@ -4,3 +4,4 @@ pub mod CellValues
 pub mod Computing
 pub mod MemoryPorts
 pub mod Beginning
+pub mod Edge
