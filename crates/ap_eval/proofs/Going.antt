@@ -17,7 +17,7 @@ use Rattle.ap_net.specs.Outside.{Outside, ports_of, shape_of, input_ports, mem_p
 use Rattle.ap_net.specs.Registers.{held}
 use Rattle.ap_net.specs.Runs.{NetState, Cycle, mems_after}
 use Rattle.ap_net.specs.Sources.{Given, IsOrderedWith, LooksLower, Takes}
-use Rattle.ap_net.specs.Answering.{first_mem_port, mem_gives, port_gives, StateFits, GoesOn}
+use Rattle.ap_net.specs.Answering.{first_mem_port, mem_gives, port_gives, StateFits}
 use Rattle.ap_net.proofs.Lists.{All-from, All-back, Each-at, get_left, some_same}
 use Rattle.ap_net.proofs.Parts.{net_of_width, width_at}
 use Rattle.ap_net.proofs.Found.{names_are_found}
@@ -153,25 +153,22 @@ module _ (f : FlatParts) (is : IsFlattened f) where
       abbrev pub new : NetState
       new = record { registers = map (λ (x : Next). slice_index v x.from.number) flat.nexts; mems = mems_after flat.nets v o.mems old.mems }
 
-      pub goes_on : GoesOn o flat code line old
-      goes_on = record {
-        valuation = v;
-        new = new;
-        cycle = record {
-          solves = solves;
-          registers = maps_agree (NextFits nets) (λ (x : Next). slice_index v x.register.number) (λ (x : Next). held flat.nexts old.registers x.register.number) at_register flat.nexts whole.registers
-              ∙ held_all flat.nexts old.registers (whole.clocked).once state.registers;
-          fetch = port_named v solves.long 1 _ refl ∙ takes 1 _ (whole_port 1 _ refl) tt ∙ ap (slice_index code) (sym (port_named v solves.long 0 _ refl));
-          wait = port_named v solves.long 2 _ refl ∙ takes 2 _ (whole_port 2 _ refl) tt;
-          inputs = inputs_are flat.nets v o.inputs line.ports 3 (mem_ports o.mems ++ behind o) (mem_part (slice_index v)) fits (rest_named v solves.long) rest_have;
-          reads = mems_answer flat.nets v o.mems old.mems (first_mem_port o) (behind o) state.mems (named_behind flat.nets v o.inputs 3 (mem_ports o.mems ++ behind o) (rest_named v solves.long))
-              (have_behind v o.inputs line.ports fits 3 (mem_ports o.mems ++ behind o) (mem_part (slice_index v)) rest_have);
-          after = refl;
-          writes = refl;
-        };
-        fits = record { registers = after_fit flat v whole solves; mems = mems_stay flat.nets v o.mems old.mems (behind o) state.mems (small v solves) };
+      pub cycle_on : Cycle o flat code line old v new
+      cycle_on = record {
+        solves = solves;
+        registers = maps_agree (NextFits nets) (λ (x : Next). slice_index v x.register.number) (λ (x : Next). held flat.nexts old.registers x.register.number) at_register flat.nexts whole.registers
+            ∙ held_all flat.nexts old.registers (whole.clocked).once state.registers;
+        fetch = port_named v solves.long 1 _ refl ∙ takes 1 _ (whole_port 1 _ refl) tt ∙ ap (slice_index code) (sym (port_named v solves.long 0 _ refl));
+        wait = port_named v solves.long 2 _ refl ∙ takes 2 _ (whole_port 2 _ refl) tt;
+        inputs = inputs_are flat.nets v o.inputs line.ports 3 (mem_ports o.mems ++ behind o) (mem_part (slice_index v)) fits (rest_named v solves.long) rest_have;
+        reads = mems_answer flat.nets v o.mems old.mems (first_mem_port o) (behind o) state.mems (named_behind flat.nets v o.inputs 3 (mem_ports o.mems ++ behind o) (rest_named v solves.long))
+            (have_behind v o.inputs line.ports fits 3 (mem_ports o.mems ++ behind o) (mem_part (slice_index v)) rest_have);
+        after = refl;
+        writes = refl;
       }
 
+      pub fits_on : StateFits o flat new
+      fits_on = record { registers = after_fit flat v whole solves; mems = mems_stay flat.nets v o.mems old.mems (behind o) state.mems (small v solves) }
 
     -- there is a solution for what they are given
     pub solution : (v : List ℕ) × Solves flat v × Takes nets given v

@@ -5,3 +5,4 @@ pub mod Computing
 pub mod MemoryPorts
 pub mod Beginning
 pub mod Edge
+pub mod Stepping

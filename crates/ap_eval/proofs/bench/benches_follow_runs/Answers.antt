@@ -1,5 +1,4 @@
-use Rattle.ap_eval.proofs.Beginning.{computed_all}
-use Rattle.ap_eval.proofs.Edge.{group_spots-writes}
+use Rattle.ap_eval.proofs.Stepping.{steps_on}
 use Rattle.ap_eval.proofs.bench.benches_follow_runs.Goals as goal
 
 pub returns-clause-steps : goal.returns-clause-steps
