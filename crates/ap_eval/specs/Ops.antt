@@ -192,3 +192,17 @@ data_after read port (m ∷ memories) = cells_after read port m ∷ data_after r
 abbrev pub memories_after : (ℕ → ℕ) → ℕ → List Cells → List Cells
 memories_after read port [] = []
 memories_after read port (m ∷ memories) = m ∷ data_after read port memories
+
+-- the net is among so many, and so is that at which its value stands
+pub record IsWithin (roots : List ℕ) (nets n : ℕ) : Type 0 where
+  pub here : n < length roots
+  pub there : slice_index roots n < nets
+
+-- the address at which each data memory is written is one of its addresses
+abbrev pub DataAddressesFit : (ℕ → ℕ) → ℕ → List Cells → Type 0
+DataAddressesFit read port [] = Unit {0}
+DataAddressesFit read port (m ∷ memories) = (read (port + 3) < m.room) × DataAddressesFit read (port + 5) memories
+
+abbrev pub AddressesFit : (ℕ → ℕ) → ℕ → List Cells → Type 0
+AddressesFit read port [] = Unit {0}
+AddressesFit read port (m ∷ memories) = DataAddressesFit read port memories

@@ -1,5 +1,5 @@
 //! The bench.
-ghost use Rattle.std.specs.Prelude.{◌≡◌, ◌≤◌, ◌<◌, ◌+◌, ◌∷◌, ◌++◌, IfOk, OnOk, IsOk, ℕ, length, List, map, string_bytes, Bool};
+ghost use Rattle.std.specs.Prelude.{◌≡◌, ◌≤◌, ◌<◌, ◌+◌, ◌*◌, ◌∷◌, ◌++◌, IfOk, OnOk, IsOk, ℕ, length, List, map, slice_index, slice_get, string_bytes, Bool};
 ghost use Rattle.std.specs.List.{AllByRecursion as Each};
 ghost use Rattle.ap_image.specs.FitsShape.{ImageFitsShape, LineFitsShape};
 ghost use Rattle.ap_image.specs.Kept.{IsKept};
@@ -9,7 +9,8 @@ ghost use Rattle.std.specs.Vec.{vec_capacity, vec_len};
 ghost use Rattle.ap_eval.specs.Benches.{IsBenchOrder, StartsInRuns, Steps, StepsInRuns, labels_by, row_limit_of, started};
 ghost use Rattle.ap_eval.specs.BenchViews.{rooms_by};
 ghost use Rattle.ap_eval.specs.Cells.{rooms_of, words_of};
-ghost use Rattle.ap_eval.specs.Ops.{OpFits, computed, load_of};
+ghost use Rattle.ap_net.specs.declared.net.Next.{Next as DeclaredNext};
+ghost use Rattle.ap_eval.specs.Ops.{AddressesFit, IsWithin, OpFits, cells_after, computed, give_all, load_of, memories_after, put_from, with_inputs};
 
 use crate::memory::Memory;
 use crate::op::Op;
@@ -121,13 +122,23 @@ fn nothing_shown(alloc: Global, flat: &Flat) -> Result<Shown, NoMemory> {
     })
 }
 
+/// Puts values into nets, from this one on.
+fn put_from(first: usize, given: &[u64], values: &mut [u64])
+    requires { first + length given.now ≤ length values.old }
+    ensures { values.new ≡ put_from first given.now values.old }
+{
+    for number in 0..given.len() {
+        values[first + number] = given[number];
+    }
+}
+
 /// Puts the values of a line into the nets of the inputs.
 fn put_inputs(input: &TraceLine, values: &mut [u64])
+    requires { 3 + length input.now.ports ≤ length values.old }
+    ensures { values.new ≡ with_inputs input.now values.old }
 {
     values[2] = u64::from(input.wait);
-    for (number, value) in input.ports.as_slice().iter().enumerate() {
-        values[3 + number] = *value;
-    }
+    put_from(3, input.ports.as_slice(), values);
 }
 
 /// Computes the values of all nets.
@@ -140,39 +151,69 @@ fn compute(ops: &[Op], memories: &[Memory], values: &mut [u64])
     }
 }
 
+/// The value of a net, which stands at its root.
+fn value_at(roots: &[usize], values: &[u64], net: usize) -> u64
+    requires { IsWithin roots.now (length values.now) net }
+    ensures { result ≡ slice_index values.now (slice_index roots.now net) }
+{
+    values[roots[net]]
+}
+
 /// Keeps the values of the ports for the row.
 fn show(roots: &[usize], values: &[u64], shown: &mut [u64])
+    requires { (n : ℕ) → n < length shown.old → IsWithin roots.now (length values.now) n }
+    ensures long { length shown.new ≡ length shown.old }
+    ensures each { (n : ℕ) → n < length shown.old
+        → slice_index shown.new n ≡ slice_index values.now (slice_index roots.now n) }
 {
     for port in 0..shown.len() {
-        shown[port] = values[roots[port]];
+        shown[port] = value_at(roots, values, port);
     }
 }
 
-/// Writes the data memories, the ports of the first of which begin with this one.
+/// Writes a data memory, whose ports begin with this one.
+fn write_memory(roots: &[usize], port: usize, values: &[u64], memory: &mut Memory)
+    requires within { (n : ℕ) → n < port + 5 → IsWithin roots.now (length values.now) n }
+    requires address { slice_index values.now (slice_index roots.now (port + 3)) < memory.old.room }
+    ensures { memory.new ≡ cells_after (λ n. slice_index values.now (slice_index roots.now n)) port memory.old }
+{
+    if value_at(roots, values, port + 2) == 1 {
+        let address = value_at(roots, values, port + 3);
+        memory.put(address, value_at(roots, values, port + 4));
+    }
+}
+
+/// Writes the data memories, the ports of the first of which begin with this one. The first memory is that of the code.
 fn write_memories(roots: &[usize], first: usize, values: &[u64], memories: &mut [Memory])
+    requires within { (n : ℕ) → n < first + 5 * length memories.old
+        → IsWithin roots.now (length values.now) n }
+    requires fits { AddressesFit (λ n. slice_index values.now (slice_index roots.now n)) first memories.old }
+    ensures { memories.new ≡ memories_after (λ n. slice_index values.now (slice_index roots.now n)) first memories.old }
 {
     for number in 1..memories.len() {
-        let port = first + MEM_PORTS * (number - 1);
-        if values[roots[port + 2]] == 1 {
-            let address = values[roots[port + 3]];
-            memories[number].put(address, values[roots[port + 4]]);
-        }
+        write_memory(roots, first + MEM_PORTS * (number - 1), values, &mut memories[number]);
     }
 }
 
 /// Takes what the registers get, before any of them is changed.
 fn take_registers(roots: &[usize], nexts: &[Next], values: &[u64], taken: &mut [u64])
+    requires room { length taken.old ≡ length nexts.now }
+    requires within { Each (λ (x : DeclaredNext). IsWithin roots.now (length values.now) x.from.number) nexts.now }
+    ensures { taken.new ≡ map (λ (x : DeclaredNext). slice_index values.now (slice_index roots.now x.from.number)) nexts.now }
 {
-    for (number, next) in nexts.iter().enumerate() {
-        taken[number] = values[roots[next.from.number]];
+    for number in 0..nexts.len() {
+        taken[number] = value_at(roots, values, nexts[number].from.number);
     }
 }
 
 /// Gives the registers what they get.
 fn give_registers(nexts: &[Next], taken: &[u64], values: &mut [u64])
+    requires room { length taken.now ≡ length nexts.now }
+    requires within { Each (λ (x : DeclaredNext). x.register.number < length values.old) nexts.now }
+    ensures { values.new ≡ give_all nexts.now taken.now values.old }
 {
-    for (number, next) in nexts.iter().enumerate() {
-        values[next.register.number] = taken[number];
+    for number in 0..nexts.len() {
+        values[nexts[number].register.number] = taken[number];
     }
 }
 
