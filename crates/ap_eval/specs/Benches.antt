@@ -8,6 +8,7 @@ use Rattle.ap_image.specs.declared.row.Row.{Row}
 use Rattle.ap_image.specs.FitsShape.{line_at}
 use Rattle.ap_image.specs.RowTexts.{file_label}
 use Rattle.ap_net.specs.declared.net.FlatNet.{FlatNet}
+use Rattle.ap_net.specs.declared.net.Role.{Role}
 use Rattle.ap_net.specs.declared.net.Role.TheVariants as role
 use Rattle.ap_net.specs.Runs.{Cycle, NetState, Runs, reset_state}
 use Rattle.ap_net.specs.Rows.{shown_row}
@@ -57,10 +58,16 @@ StepsInRuns = (flat : FlatParts) → IsFlattened flat → (image : Image) (trace
     → (old new : BenchState) → StandsIn flat image trace m states valuations old → Steps (line_at trace (shape_of flat.outside).inputs m) old new
     → StandsIn flat image trace (m + 1) states valuations new
 
--- the net isn't in a bench's order: a register, mwait, or an input of the description, which are the ports after the third
-pub data IsGiven (o : Outside) (n : ℕ) : Option FlatNet → Type 0 where
-  register : (net : FlatNet) (reset : ℕ) → net.role ≡ role.Register reset → IsGiven o n (Some net)
-  entering : (net : FlatNet) → 2 ≤ n → n < 3 + length o.inputs → IsGiven o n (Some net)
+-- the net isn't in a bench's order: a register, or one of the ports mwait and the inputs of the description, which follow iaddr and idata
+abbrev pub IsGivenBy : ℕ → ℕ → Role → Type 0
+IsGivenBy inputs n role.Input = (2 ≤ n) × (n < 3 + inputs)
+IsGivenBy inputs n role.Output = (2 ≤ n) × (n < 3 + inputs)
+IsGivenBy inputs n role.Plain = (2 ≤ n) × (n < 3 + inputs)
+IsGivenBy inputs n (role.Register reset) = Unit {0}
+
+abbrev pub IsGiven : Outside → ℕ → Option FlatNet → Type 0
+IsGiven o n None = ⊥
+IsGiven o n (Some net) = IsGivenBy (length o.inputs) n net.role
 
 -- The numbers of the nets except those that the outside or a clock edge gives before a cycle: each once, and after each of them on
 -- which it directly depends.

@@ -1,5 +1,5 @@
 -- What an operation on the values of nets gives, and which operations compute an opened netlist.
-use Rattle.std.specs.Prelude.{◌≡◌, ℕ, ◌+◌, ◌-◌, ◌*◌, ◌/◌, ◌%◌, ◌^◌, ◌<◌, ◌≤◌, ◌==◌, ◌&&◌, nat_lt, nat_le, List, [], ◌∷◌, ◌++◌, length, bit_and, bit_or, bit_xor, Option, Some, None, option_map, slice_get, slice_index, set, if◌then◌else◌}
+use Rattle.std.specs.Prelude.{◌≡◌, ℕ, ◌+◌, ◌-◌, ◌*◌, ◌/◌, ◌%◌, ◌^◌, ◌<◌, ◌≤◌, ◌==◌, ◌&&◌, nat_lt, nat_le, List, [], ◌∷◌, ◌++◌, length, bit_and, bit_or, bit_xor, Option, Some, None, option_map, map, slice_get, slice_index, set, if◌then◌else◌}
 use Rattle.ap_net.specs.declared.cell.Wire.{Wire}
 use Rattle.ap_net.specs.declared.cell.TwoOp.{TwoOp}
 use Rattle.ap_net.specs.declared.cell.TwoOp.TheVariants as two
@@ -145,21 +145,18 @@ abbrev pub ops_of : FlatParts → List ℕ → List ℕ → List Op
 ops_of f roots [] = []
 ops_of f roots (n ∷ order) = op_list n (shape_of_net f roots n) ++ ops_of f roots order
 
--- the value of a net before the first cycle: a constant's, or a register's after the reset edge
-abbrev pub first_by : Option Driver → ℕ → ℕ
-first_by None reset = reset
-first_by (Some driver.Given) reset = reset
-first_by (Some (driver.Looks m)) reset = reset
-first_by (Some (driver.Equation (cell.Const c))) reset = c
-first_by (Some (driver.Equation (cell.Copy w))) reset = reset
-first_by (Some (driver.Equation (cell.Not a))) reset = reset
-first_by (Some (driver.Equation (cell.Two o a b))) reset = reset
-first_by (Some (driver.Equation (cell.Choose s a b))) reset = reset
-first_by (Some (driver.Equation (cell.Cat a b))) reset = reset
-first_by (Some (driver.Equation (cell.Slice a h l))) reset = reset
-
-abbrev pub first_value : FlatParts → ℕ → ℕ
-first_value f n = first_by (slice_get f.drivers n) (reset_in f.net n)
+-- the value of a constant, and 0 for what is none
+abbrev pub constant_of : Option Driver → ℕ
+constant_of None = 0
+constant_of (Some driver.Given) = 0
+constant_of (Some (driver.Looks m)) = 0
+constant_of (Some (driver.Equation (cell.Const c))) = c
+constant_of (Some (driver.Equation (cell.Copy w))) = 0
+constant_of (Some (driver.Equation (cell.Not a))) = 0
+constant_of (Some (driver.Equation (cell.Two o a b))) = 0
+constant_of (Some (driver.Equation (cell.Choose s a b))) = 0
+constant_of (Some (driver.Equation (cell.Cat a b))) = 0
+constant_of (Some (driver.Equation (cell.Slice a h l))) = 0
 
 -- the plan of a netlist
 pub record IsPlan (f : FlatParts) (roots : List ℕ) (ops : List Op) : Type 0 where
@@ -206,3 +203,7 @@ DataAddressesFit read port (m ∷ memories) = (read (port + 3) < m.room) × Data
 abbrev pub AddressesFit : (ℕ → ℕ) → ℕ → List Cells → Type 0
 AddressesFit read port [] = Unit {0}
 AddressesFit read port (m ∷ memories) = DataAddressesFit read port memories
+
+-- the values before the first cycle: those of constants, and what registers that are driven hold after the reset edge
+abbrev pub first_values : FlatParts → List ℕ
+first_values f = give_all f.net.nexts (map (λ (x : Next). reset_in f.net x.register.number) f.net.nexts) (map (λ (d : Driver). constant_of (Some d)) f.drivers)

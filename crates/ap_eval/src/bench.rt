@@ -1,12 +1,12 @@
 //! The bench.
-ghost use Rattle.std.specs.Prelude.{◌≡◌, ◌≤◌, ◌<◌, ◌+◌, ◌*◌, ◌∷◌, ◌++◌, IfOk, OnOk, IsOk, ℕ, length, List, map, slice_index, slice_get, string_bytes, Bool};
+ghost use Rattle.std.specs.Prelude.{◌≡◌, ◌≤◌, ◌<◌, ◌+◌, ◌*◌, ◌∷◌, ◌++◌, IfOk, OnOk, IsOk, IsTrue, ◌↔◌, ℕ, length, List, map, slice_index, slice_get, string_bytes, Bool};
 ghost use Rattle.std.specs.List.{AllByRecursion as Each};
 ghost use Rattle.ap_image.specs.FitsShape.{ImageFitsShape, LineFitsShape};
 ghost use Rattle.ap_image.specs.Kept.{IsKept};
 ghost use Rattle.ap_image.specs.RowTexts.{row_text};
 ghost use Rattle.ap_net.specs.Outside.{shape_of};
 ghost use Rattle.std.specs.Vec.{vec_capacity, vec_len};
-ghost use Rattle.ap_eval.specs.Benches.{IsBenchOrder, StartsInRuns, Steps, StepsInRuns, labels_by, row_limit_of, started};
+ghost use Rattle.ap_eval.specs.Benches.{IsBenchOrder, IsGivenBy, StartsInRuns, Steps, StepsInRuns, labels_by, row_limit_of, started};
 ghost use Rattle.ap_eval.specs.BenchViews.{rooms_by};
 ghost use Rattle.ap_eval.specs.Cells.{rooms_of, words_of};
 ghost use Rattle.ap_net.specs.declared.net.Next.{Next as DeclaredNext};
@@ -83,7 +83,10 @@ fn memories_of(alloc: Global, flat: &Flat, image: &Image) -> Result<Vec<Memory>,
 }
 
 /// Whether the outside gives the net before each cycle, or the clock edge does.
-fn is_given(role: Role, net: usize, inputs: usize) -> bool {
+fn is_given(role: Role, net: usize, inputs: usize) -> bool
+    requires { inputs ≤ 8 }
+    ensures { IsTrue result ↔ IsGivenBy inputs net role }
+{
     match role {
         Role::Register(_) => true,
         Role::Input | Role::Output | Role::Plain => 2 <= net && net < 3 + inputs,
@@ -207,7 +210,7 @@ fn take_registers(roots: &[usize], nexts: &[Next], values: &[u64], taken: &mut [
 }
 
 /// Gives the registers what they get.
-fn give_registers(nexts: &[Next], taken: &[u64], values: &mut [u64])
+pub(crate) fn give_registers(nexts: &[Next], taken: &[u64], values: &mut [u64])
     requires room { length taken.now ≡ length nexts.now }
     requires within { Each (λ (x : DeclaredNext). x.register.number < length values.old) nexts.now }
     ensures { values.new ≡ give_all nexts.now taken.now values.old }

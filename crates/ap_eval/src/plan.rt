@@ -1,9 +1,13 @@
 //! The straight list of operations that computes an opened netlist.
-ghost use Rattle.std.specs.Prelude.{◌≡◌, ◌<◌, ◌≤◌, ℕ, IfOk, length, slice_get, slice_index, Some};
+ghost use Rattle.std.specs.Prelude.{◌≡◌, ◌<◌, ◌≤◌, ℕ, IfOk, length, map, slice_get, slice_index, Some};
+ghost use Rattle.ap_net.specs.Flat.{reset_in};
+ghost use Rattle.ap_net.specs.declared.net.Next.{Next as DeclaredNext};
+ghost use Rattle.ap_flat.specs.declared.driver.Driver.{Driver as DeclaredDriver};
 ghost use Rattle.ap_net.specs.Cells.{CellFits};
 ghost use Rattle.ap_net.specs.Flat.{plain_nets};
-ghost use Rattle.ap_eval.specs.Ops.{AreRoots, CellReads, IsPlan, cell_shape, first_value, mask_of, memory_at, ops_of, shape_of_net, two_shape};
+ghost use Rattle.ap_eval.specs.Ops.{AreRoots, CellReads, IsPlan, cell_shape, constant_of, first_values, mask_of, memory_at, ops_of, shape_of_net, two_shape};
 
+use crate::bench::give_registers;
 use crate::op::{Op, Shape};
 use crate::spot::{MEM_PORTS, first_mem_port};
 use ap_bits::{NoMemory, mask};
@@ -30,7 +34,8 @@ fn roots_of(alloc: Global, flat: &Flat) -> Result<Vec<usize>, NoMemory>
         roots.push(net)?;
     }
     for net in flat.order() {
-        if let Driver::Equation(Cell::Copy(from)) = drivers[*net] {
+        let driver = drivers[*net];
+        if let Driver::Equation(Cell::Copy(from)) = driver {
             roots[*net] = roots[from.number];
         }
     }
@@ -138,32 +143,64 @@ fn ops_of(alloc: Global, flat: &Flat, roots: &[usize]) -> Result<Vec<Op>, NoMemo
     Ok(ops)
 }
 
-/// The value of a net before the first cycle: a constant's, or a register's after the reset edge, and else 0.
-fn first_value(flat: &Flat, net: usize) -> u64
-    requires { net < length flat.now.net.nets }
-    ensures { result ≡ first_value flat.now net }
+/// The value of a constant's net, and 0 for any other.
+fn constant_at(flat: &Flat, net: usize) -> u64
+    requires { net < length flat.now.drivers }
+    ensures { result ≡ constant_of (slice_get flat.now.drivers net) }
 {
-    flat.rules();
-    if let Driver::Equation(Cell::Const(value)) = flat.drivers()[net] {
-        return value;
+    let driver = flat.drivers()[net];
+    match driver {
+        Driver::Equation(Cell::Const(value)) => value,
+        _ => 0,
     }
-    match flat.nets()[net].role {
+}
+
+/// The values of all nets before the first cycle, but those of registers: constants have theirs.
+fn constants_of(alloc: Global, flat: &Flat) -> Result<Vec<u64>, NoMemory>
+    ensures { IfOk result (λ values. values.items ≡ map (λ (d : DeclaredDriver). constant_of (Some d)) flat.now.drivers) }
+{
+    let mut values = Vec::new(alloc);
+    for net in 0..flat.drivers().len() {
+        let value = constant_at(flat, net);
+        values.push(value)?;
+    }
+    Ok(values)
+}
+
+/// The value of a net after the reset edge, and 0 for what is no register.
+fn reset_of(flat: &Flat, net: usize) -> u64
+    requires { net < length flat.now.net.nets }
+    ensures { result ≡ reset_in flat.now.net net }
+{
+    let role = flat.nets()[net].role;
+    match role {
         Role::Register(reset) => reset,
         Role::Input | Role::Output | Role::Plain => 0,
     }
 }
 
-/// The values of all nets before the first cycle.
-pub(crate) fn first_values(alloc: Global, flat: &Flat) -> Result<Vec<u64>, NoMemory>
-    ensures long { IfOk result (λ values. length values.items ≡ length flat.now.net.nets) }
-    ensures each { IfOk result (λ values. (n : ℕ) → n < length flat.now.net.nets
-        → slice_index values.items n ≡ first_value flat.now n) }
+/// What the registers hold after the reset edge.
+pub(crate) fn resets_of(alloc: Global, flat: &Flat) -> Result<Vec<u64>, NoMemory>
+    ensures { IfOk result (λ resets. resets.items ≡ map (λ (x : DeclaredNext). reset_in flat.now.net x.register.number) flat.now.net.nexts) }
 {
-    let mut values = Vec::new(alloc);
-    for net in 0..flat.nets().len() {
-        let value = first_value(flat, net);
-        values.push(value)?;
+    flat.rules();
+    let nexts = flat.nexts();
+    let mut resets = Vec::new(alloc);
+    for number in 0..nexts.len() {
+        let reset = reset_of(flat, nexts[number].register.number);
+        resets.push(reset)?;
     }
+    Ok(resets)
+}
+
+/// The values of all nets before the first cycle: those of constants, and what registers that are driven hold after the reset edge.
+pub(crate) fn first_values(alloc: Global, flat: &Flat) -> Result<Vec<u64>, NoMemory>
+    ensures { IfOk result (λ values. values.items ≡ first_values flat.now) }
+{
+    flat.rules();
+    let mut values = constants_of(alloc, flat)?;
+    let resets = resets_of(alloc, flat)?;
+    give_registers(flat.nexts(), &resets, &mut values);
     Ok(values)
 }
 
