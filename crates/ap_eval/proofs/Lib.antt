@@ -6,3 +6,5 @@ pub mod MemoryPorts
 pub mod Beginning
 pub mod Edge
 pub mod Stepping
+pub mod MemoryLemmas
+pub mod Rooting

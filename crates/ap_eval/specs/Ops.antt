@@ -113,6 +113,12 @@ CellReads nets (cell.Choose s a b) = (s.number < nets) × (a.number < nets) × (
 CellReads nets (cell.Cat a b) = (a.number < nets) × (b.number < nets)
 CellReads nets (cell.Slice a h l) = a.number < nets
 
+-- of a cell's result of so many bits
+abbrev pub DriverReads : ℕ → ℕ → Driver → Type 0
+DriverReads nets width driver.Given = Unit {0}
+DriverReads nets width (driver.Looks m) = Unit {0}
+DriverReads nets width (driver.Equation c) = (1 ≤ width) × (width ≤ 64) × CellReads nets c
+
 -- the memory whose word stands at this port, of so many data memories whose ports begin at `first`: the code memory is 0
 abbrev pub memory_at : ℕ → ℕ → ℕ → Option ℕ
 memory_at first count n = if n == 1 then Some 0 else (if nat_le first n && nat_lt n (first + 5 * count) && (n - first) % 5 == 1 then Some ((n - first) / 5 + 1) else None)

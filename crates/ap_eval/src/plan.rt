@@ -5,7 +5,7 @@ ghost use Rattle.ap_net.specs.declared.net.Next.{Next as DeclaredNext};
 ghost use Rattle.ap_flat.specs.declared.driver.Driver.{Driver as DeclaredDriver};
 ghost use Rattle.ap_net.specs.Cells.{CellFits};
 ghost use Rattle.ap_net.specs.Flat.{plain_nets};
-ghost use Rattle.ap_eval.specs.Ops.{AreRoots, CellReads, IsPlan, cell_shape, constant_of, first_values, mask_of, memory_at, ops_of, shape_of_net, two_shape};
+ghost use Rattle.ap_eval.specs.Ops.{AreRoots, CellReads, IsPlan, cell_shape, DriverReads, constant_of, driver_shape, first_values, mask_of, memory_at, ops_of, shape_of_net, two_shape};
 
 use crate::bench::give_registers;
 use crate::op::{Op, Shape};
@@ -23,16 +23,25 @@ pub(crate) struct Plan {
     pub(crate) ops: Vec<Op>,
 }
 
+/// The numbers of so many nets.
+fn numbers(alloc: Global, count: usize) -> Result<Vec<usize>, NoMemory>
+    ensures long { IfOk result (λ numbers. length numbers.items ≡ count) }
+    ensures each { IfOk result (λ numbers. (n : ℕ) → n < count → slice_index numbers.items n ≡ n) }
+{
+    let mut numbers = Vec::new(alloc);
+    for net in 0..count {
+        numbers.push(net)?;
+    }
+    Ok(numbers)
+}
+
 /// Where the value of each net stands.
 fn roots_of(alloc: Global, flat: &Flat) -> Result<Vec<usize>, NoMemory>
     ensures { IfOk result (λ roots. AreRoots flat.now.drivers roots.items) }
 {
     flat.rules();
     let drivers = flat.drivers();
-    let mut roots = Vec::new(alloc);
-    for net in 0..drivers.len() {
-        roots.push(net)?;
-    }
+    let mut roots = numbers(alloc, drivers.len())?;
     for net in flat.order() {
         let driver = drivers[*net];
         if let Driver::Equation(Cell::Copy(from)) = driver {
@@ -107,7 +116,18 @@ fn memory_at(first: usize, count: usize, port: usize) -> Option<usize>
     }
 }
 
-/// What computes a net; None where the outside or a clock edge gives it, and for a constant and a copy.
+/// What computes a net with this driver and width; None where the outside or a clock edge gives it, and for a constant and a copy.
+fn driver_shape(roots: &[usize], width: u32, driver: Driver) -> Option<Shape>
+    requires { DriverReads (length roots.now) width driver }
+    ensures { result ≡ driver_shape roots.now width (Some driver) }
+{
+    match driver {
+        Driver::Given | Driver::Looks(_) => None,
+        Driver::Equation(cell) => cell_shape(roots, width, cell),
+    }
+}
+
+/// What computes a net.
 fn shape_of(flat: &Flat, roots: &[usize], net: usize) -> Option<Shape>
     requires net { net < length flat.now.net.nets }
     requires roots { length roots.now ≡ length flat.now.drivers }
@@ -116,15 +136,13 @@ fn shape_of(flat: &Flat, roots: &[usize], net: usize) -> Option<Shape>
     flat.rules();
     let outside = flat.outside();
     let count = outside.shape().mems().len();
-    if let Some(memory) = memory_at(first_mem_port(outside), count, net) {
-        return Some(Shape::Load {
+    let driver = flat.drivers()[net];
+    match memory_at(first_mem_port(outside), count, net) {
+        Some(memory) => Some(Shape::Load {
             memory,
             address: roots[net - 1],
-        });
-    }
-    match flat.drivers()[net] {
-        Driver::Given | Driver::Looks(_) => None,
-        Driver::Equation(cell) => cell_shape(roots, flat.nets()[net].width, cell),
+        }),
+        None => driver_shape(roots, flat.nets()[net].width, driver),
     }
 }
 
@@ -144,11 +162,9 @@ fn ops_of(alloc: Global, flat: &Flat, roots: &[usize]) -> Result<Vec<Op>, NoMemo
 }
 
 /// The value of a constant's net, and 0 for any other.
-fn constant_at(flat: &Flat, net: usize) -> u64
-    requires { net < length flat.now.drivers }
-    ensures { result ≡ constant_of (slice_get flat.now.drivers net) }
+fn constant_of(driver: Driver) -> u64
+    ensures { result ≡ constant_of (Some driver) }
 {
-    let driver = flat.drivers()[net];
     match driver {
         Driver::Equation(Cell::Const(value)) => value,
         _ => 0,
@@ -160,9 +176,8 @@ fn constants_of(alloc: Global, flat: &Flat) -> Result<Vec<u64>, NoMemory>
     ensures { IfOk result (λ values. values.items ≡ map (λ (d : DeclaredDriver). constant_of (Some d)) flat.now.drivers) }
 {
     let mut values = Vec::new(alloc);
-    for net in 0..flat.drivers().len() {
-        let value = constant_at(flat, net);
-        values.push(value)?;
+    for driver in flat.drivers() {
+        values.push(constant_of(*driver))?;
     }
     Ok(values)
 }

@@ -1,11 +1,12 @@
 //! Which ports show a write.
-ghost use Rattle.std.specs.Prelude.{◌≡◌, ◌<◌, ◌≤◌, ◌++◌, ◌+◌, ◌*◌, ◌^◌, IfOk, length};
+ghost use Rattle.std.specs.Prelude.{◌≡◌, ◌<◌, ◌≤◌, ◌++◌, ◌+◌, ◌*◌, ◌^◌, IfOk, OnOk, length};
 ghost use Rattle.ap_net.specs.Answering.{first_mem_port};
-ghost use Rattle.ap_eval.specs.Spots.{group_ports_count, group_size, group_spot, group_spots, port_count_of, spots_of, stall_port};
+ghost use Rattle.ap_eval.specs.Spots.{group_ports_count, group_size, group_spot, group_spots, mem_spots, port_count_of, spots_of, stall_port};
 
 use ap_bits::NoMemory;
 use ap_flat::Outside;
 use ap_flat::outside::{FilePort, Group};
+use ap_image::MemShape;
 use std::alloc::Global;
 
 /// The numbers of the ports that show the writes of a group or memory.
@@ -38,7 +39,7 @@ pub(crate) fn stall_port(outside: &Outside) -> usize
 
 /// The ports of a group whose first one has this number, and how many it has.
 fn group_spot(port: usize, file: &Option<FilePort>) -> (Spot, usize)
-    requires { port + 3 < 2 ^ 64 }
+    requires { port + 2 < 2 ^ 64 }
     ensures spot { result.0 ≡ group_spot port file.now }
     ensures size { result.1 ≡ group_size file.now }
 {
@@ -82,6 +83,25 @@ fn group_spots(
     Ok(spots)
 }
 
+/// Appends the spots of memories whose ports begin at this one.
+fn put_mem_spots(start: usize, mems: &[MemShape], spots: &mut Vec<Spot>) -> Result<(), NoMemory>
+    requires start { start ≤ 11 }
+    requires mems { length mems.now ≤ 4 }
+    ensures { OnOk result (spots.new.items ≡ spots.old.items ++ mem_spots start mems.now) }
+{
+    let mut port = start;
+    for _ in mems {
+        let spot = Spot {
+            enable: port + 2,
+            index: Some(port + 3),
+            value: port + 4,
+        };
+        spots.push(spot)?;
+        port += MEM_PORTS;
+    }
+    Ok(())
+}
+
 /// The spots of the groups and then of the memories. There are at most `count` ports.
 pub(crate) fn spots_of(
     alloc: Global,
@@ -95,15 +115,7 @@ pub(crate) fn spots_of(
 {
     let first = stall_port(outside) + 2;
     let mut spots = group_spots(alloc, first, outside.groups(), count)?;
-    let mut port = first_mem_port(outside);
-    for _ in outside.shape().mems() {
-        spots.push(Spot {
-            enable: port + 2,
-            index: Some(port + 3),
-            value: port + 4,
-        })?;
-        port += MEM_PORTS;
-    }
+    put_mem_spots(first_mem_port(outside), outside.shape().mems(), &mut spots)?;
     Ok(spots)
 }
 

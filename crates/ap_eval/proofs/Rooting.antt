@@ -1,0 +1,110 @@
+-- Where the values of nets stand, net by net in their order.
+use Rattle.std.proofs.Common.{◌≡◌, ◌≢◌, ℕ, zero, suc, ◌+◌, ◌<◌, ◌≤◌, ◌⊎◌, inl, inr, List, [], ◌∷◌, length, Some, refl, sym, ap, subst, ◌∙◌, arith, set}
+use Rattle.std.specs.Prelude.{slice_get, slice_index}
+use Rattle.std.specs.List.{AllByRecursion as Each}
+use Rattle.std.proofs.lemmas.Bool.{cases_lt}
+use Rattle.std.proofs.lemmas.List.{get_or-set_same, get_or-set_other, length-set}
+use Rattle.std.proofs.lemmas.Option.{slice_get_within}
+use Rattle.ap_net.specs.declared.cell.Wire.{Wire}
+use Rattle.ap_net.specs.declared.cell.Cell.{Cell}
+use Rattle.ap_net.specs.declared.cell.Cell.TheVariants as cell
+use Rattle.ap_flat.specs.Flats.{FlatParts, IsFlattened}
+use Rattle.ap_flat.specs.declared.driver.Driver.{Driver}
+use Rattle.ap_flat.specs.declared.driver.Driver.TheVariants as driver
+use Rattle.ap_eval.specs.Ops.{AreRoots, root_by}
+use Rattle.ap_net.proofs.Lists.{some_same as some_of}
+use Rattle.ap_eval.proofs.Ordering.{rank, net_at_rank}
+use Rattle.ap_eval.proofs.Computing.{equation, operand_lower}
+
+-- the roots of the nets before this place of the order, and of no other yet
+pub record AreRootsTo (drivers : List Driver) (order : List ℕ) (i : ℕ) (roots : List ℕ) : Type 0 where
+  pub long : length roots ≡ length drivers
+  pub done : (j n : ℕ) (by : Driver) → j < i → slice_get order j ≡ Some n → slice_get drivers n ≡ Some by → slice_index roots n ≡ root_by roots n by
+  pub rest : (j n : ℕ) → i ≤ j → slice_get order j ≡ Some n → slice_index roots n ≡ n
+
+module _ (f : FlatParts) (is : IsFlattened f) where
+  pub begin : (roots : List ℕ) → length roots ≡ length f.drivers → ((n : ℕ) → n < length f.drivers → slice_index roots n ≡ n) → AreRootsTo f.drivers f.order 0 roots
+  begin roots long each = record {
+    long = long;
+    done = λ j n by less at there. absurd (omega arith);
+    rest = λ j n le at. each n (let lt : n < length f.net.nets = is.order.within j n at in let e : length f.drivers ≡ length f.net.nets = is.drivers.long in omega arith);
+  }
+
+  -- what a copy reads stands before it in the order
+  source_before : (i n : ℕ) (w : Wire) → slice_get f.order i ≡ Some n → slice_get f.drivers n ≡ Some (driver.Equation (cell.Copy w)) → (w.number < length f.net.nets) × (rank f is w.number < i)
+  source_before i n w at by =
+      let l = (operand_lower f is n (cell.Copy w) (is.order.within i n at) (equation f is n (cell.Copy w) by)).0 in
+      let r : rank f is n ≡ i = net_at_rank f is n i at in
+      let b : rank f is w.number < rank f is n = l.1 in
+      (l.0, omega arith)
+
+  pub copied : (roots : List ℕ) (i n : ℕ) (w : Wire) → AreRootsTo f.drivers f.order i roots → slice_get f.order i ≡ Some n → slice_get f.drivers n ≡ Some (driver.Equation (cell.Copy w))
+      → AreRootsTo f.drivers f.order (i + 1) (set roots n (slice_index roots w.number))
+  copied roots i n w so at by =
+      let x : ℕ = slice_index roots w.number in
+      let lt : n < length f.net.nets = is.order.within i n at in
+      let e : length f.drivers ≡ length f.net.nets = is.drivers.long in
+      let long : length roots ≡ length f.drivers = so.long in
+      let r : rank f is n ≡ i = net_at_rank f is n i at in
+      let here = source_before i n w at by in
+      let below : rank f is w.number < i = here.1 in
+      let same_n : slice_index (set roots n x) n ≡ x = get_or-set_same roots n x 0 (omega arith) in
+      let other : (m : ℕ) → rank f is m < i → slice_index (set roots n x) m ≡ slice_index roots m = λ m less. get_or-set_other roots n m x 0 (λ same. let q : rank f is m ≡ rank f is n = ap (rank f is) same in absurd (omega arith)) in
+      record {
+        long = length-set roots n x ∙ so.long;
+        done = λ j m by' less there driven. go j m by' (cases_lt j i) less there driven same_n other below;
+        rest = λ j m le there. get_or-set_other roots n m x 0 (λ same. let q : rank f is m ≡ rank f is n = ap (rank f is) same in let p : rank f is m ≡ j = net_at_rank f is m j there in absurd (omega arith)) ∙ so.rest j m (omega arith) there;
+      }
+    where
+      early : (j m : ℕ) (by' : Driver) → j < i → slice_get f.order j ≡ Some m → slice_get f.drivers m ≡ Some by' → ((k : ℕ) → rank f is k < i → slice_index (set roots n (slice_index roots w.number)) k ≡ slice_index roots k)
+          → root_by roots m by' ≡ root_by (set roots n (slice_index roots w.number)) m by'
+      early j m driver.Given less there driven other = refl
+      early j m (driver.Looks k) less there driven other = refl
+      early j m (driver.Equation (cell.Const c)) less there driven other = refl
+      early j m (driver.Equation (cell.Copy u)) less there driven other = let s = source_before j m u there driven in let b : rank f is u.number < j = s.1 in sym (other u.number (omega arith))
+      early j m (driver.Equation (cell.Not a)) less there driven other = refl
+      early j m (driver.Equation (cell.Two o a b)) less there driven other = refl
+      early j m (driver.Equation (cell.Choose s a b)) less there driven other = refl
+      early j m (driver.Equation (cell.Cat a b)) less there driven other = refl
+      early j m (driver.Equation (cell.Slice a h l)) less there driven other = refl
+
+      go : (j m : ℕ) (by' : Driver) → (j < i) ⊎ (i ≤ j) → j < i + 1 → slice_get f.order j ≡ Some m → slice_get f.drivers m ≡ Some by' → slice_index (set roots n (slice_index roots w.number)) n ≡ slice_index roots w.number
+          → ((k : ℕ) → rank f is k < i → slice_index (set roots n (slice_index roots w.number)) k ≡ slice_index roots k) → rank f is w.number < i
+          → slice_index (set roots n (slice_index roots w.number)) m ≡ root_by (set roots n (slice_index roots w.number)) m by'
+      go j m by' (inl less) lt there driven same_n other below =
+          let p : rank f is m ≡ j = net_at_rank f is m j there in
+          other m (omega arith) ∙ so.done j m by' less there driven ∙ early j m by' less there driven other
+      go j m by' (inr le) lt there driven same_n other below =
+          let ji : j ≡ i = omega arith in
+          let mn : n ≡ m = some_of (sym at ∙ ap (slice_get f.order) (sym ji) ∙ there) in
+          let d : driver.Equation (cell.Copy w) ≡ by' = some_of (sym by ∙ ap (slice_get f.drivers) mn ∙ driven) in
+          subst (λ (b : Driver). slice_index (set roots n (slice_index roots w.number)) m ≡ root_by (set roots n (slice_index roots w.number)) m b) d
+          (ap (slice_index (set roots n (slice_index roots w.number))) (sym mn) ∙ same_n ∙ sym (other w.number below))
+
+  -- a net that is no copy stands at itself
+  pub passed_by : (roots : List ℕ) (i n : ℕ) (by : Driver) → AreRootsTo f.drivers f.order i roots → slice_get f.order i ≡ Some n → slice_get f.drivers n ≡ Some by → root_by roots n by ≡ n → AreRootsTo f.drivers f.order (i + 1) roots
+  passed_by roots i n by so at driven own = record {
+    long = so.long;
+    done = λ j m by' less there d. go j m by' (cases_lt j i) less there d;
+    rest = λ j m le there. so.rest j m (omega arith) there;
+  }
+    where
+      go : (j m : ℕ) (by' : Driver) → (j < i) ⊎ (i ≤ j) → j < i + 1 → slice_get f.order j ≡ Some m → slice_get f.drivers m ≡ Some by' → slice_index roots m ≡ root_by roots m by'
+      go j m by' (inl less) lt there d = so.done j m by' less there d
+      go j m by' (inr le) lt there d =
+          let ji : j ≡ i = omega arith in
+          let mn : n ≡ m = some_of (sym at ∙ ap (slice_get f.order) (sym ji) ∙ there) in
+          let e : by ≡ by' = some_of (sym driven ∙ ap (slice_get f.drivers) mn ∙ d) in
+          let here : slice_index roots n ≡ root_by roots n by = so.rest i n (omega arith) at ∙ sym own in
+          subst (λ (b : Driver). slice_index roots m ≡ root_by roots m b) e (subst (λ k. slice_index roots k ≡ root_by roots k by) mn here)
+
+  pub all_rooted : (roots : List ℕ) (i : ℕ) → length f.order ≤ i → AreRootsTo f.drivers f.order i roots → AreRoots f.drivers roots
+  all_rooted roots i le so = record {
+    long = so.long;
+    each = λ n by driven.
+        let lt : n < length f.drivers = slice_get_within f.drivers n by driven in
+        let e : length f.drivers ≡ length f.net.nets = is.drivers.long in
+        let at = is.order.all n (omega arith) in
+        let w : at.0 < length f.order = slice_get_within f.order at.0 n at.1 in
+        so.done at.0 n by (omega arith) at.1 driven;
+  }
