@@ -1,9 +1,9 @@
 -- Where the values of nets stand, net by net in their order.
-use Rattle.std.proofs.Common.{◌≡◌, ◌≢◌, ℕ, zero, suc, ◌+◌, ◌<◌, ◌≤◌, ◌⊎◌, inl, inr, List, [], ◌∷◌, length, Some, refl, sym, ap, subst, ◌∙◌, arith, set}
+use Rattle.std.proofs.Common.{◌≡◌, ◌≢◌, ℕ, zero, suc, ◌+◌, ◌<◌, ◌≤◌, ◌⊎◌, inl, inr, List, [], ◌∷◌, length, get_or, Some, refl, sym, ap, subst, ◌∙◌, arith, set}
 use Rattle.std.specs.Prelude.{slice_get, slice_index}
 use Rattle.std.specs.List.{AllByRecursion as Each}
 use Rattle.std.proofs.lemmas.Bool.{cases_lt}
-use Rattle.std.proofs.lemmas.List.{get_or-set_same, get_or-set_other, length-set}
+use Rattle.std.proofs.lemmas.List.{get_or-set_same, get_or-set_other, length-set, set-get_or}
 use Rattle.std.proofs.lemmas.Option.{slice_get_within}
 use Rattle.ap_net.specs.declared.cell.Wire.{Wire}
 use Rattle.ap_net.specs.declared.cell.Cell.{Cell}
@@ -11,7 +11,7 @@ use Rattle.ap_net.specs.declared.cell.Cell.TheVariants as cell
 use Rattle.ap_flat.specs.Flats.{FlatParts, IsFlattened}
 use Rattle.ap_flat.specs.declared.driver.Driver.{Driver}
 use Rattle.ap_flat.specs.declared.driver.Driver.TheVariants as driver
-use Rattle.ap_eval.specs.Ops.{AreRoots, root_by}
+use Rattle.ap_eval.specs.Ops.{AreRoots, SourceIsWithin, root_by}
 use Rattle.ap_net.proofs.Lists.{some_same as some_of}
 use Rattle.ap_eval.proofs.Ordering.{rank, net_at_rank}
 use Rattle.ap_eval.proofs.Computing.{equation, operand_lower}
@@ -21,6 +21,12 @@ pub record AreRootsTo (drivers : List Driver) (order : List ℕ) (i : ℕ) (root
   pub long : length roots ≡ length drivers
   pub done : (j n : ℕ) (by : Driver) → j < i → slice_get order j ≡ Some n → slice_get drivers n ≡ Some by → slice_index roots n ≡ root_by roots n by
   pub rest : (j n : ℕ) → i ≤ j → slice_get order j ≡ Some n → slice_index roots n ≡ n
+
+-- an element that is read by its index
+pub got : {X : Type 0} (xs : List X) (n : ℕ) (d : X) → n < length xs → slice_get xs n ≡ Some (get_or xs n d)
+got [] n d lt = absurd (omega arith)
+got (x ∷ xs) zero d lt = refl
+got (x ∷ xs) (suc n) d lt = got xs n d (omega arith)
 
 module _ (f : FlatParts) (is : IsFlattened f) where
   pub begin : (roots : List ℕ) → length roots ≡ length f.drivers → ((n : ℕ) → n < length f.drivers → slice_index roots n ≡ n) → AreRootsTo f.drivers f.order 0 roots
@@ -97,6 +103,31 @@ module _ (f : FlatParts) (is : IsFlattened f) where
           let e : by ≡ by' = some_of (sym driven ∙ ap (slice_get f.drivers) mn ∙ d) in
           let here : slice_index roots n ≡ root_by roots n by = so.rest i n (omega arith) at ∙ sym own in
           subst (λ (b : Driver). slice_index roots m ≡ root_by roots m b) e (subst (λ k. slice_index roots k ≡ root_by roots k by) mn here)
+
+  same_root : (roots : List ℕ) (i n : ℕ) → AreRootsTo f.drivers f.order i roots → slice_get f.order i ≡ Some n → roots ≡ set roots n n
+  same_root roots i n so at = sym (set-get_or roots n 0) ∙ ap (set roots n) (so.rest i n (omega arith) at)
+
+  pub placed : (roots : List ℕ) (i n : ℕ) (by : Driver) → AreRootsTo f.drivers f.order i roots → slice_get f.order i ≡ Some n → slice_get f.drivers n ≡ Some by → AreRootsTo f.drivers f.order (i + 1) (set roots n (root_by roots n by))
+  placed roots i n (driver.Equation (cell.Copy w)) so at driven = copied roots i n w so at driven
+  placed roots i n driver.Given so at driven = subst (AreRootsTo f.drivers f.order (i + 1)) (same_root roots i n so at) (passed_by roots i n driver.Given so at driven refl)
+  placed roots i n (driver.Looks m) so at driven = subst (AreRootsTo f.drivers f.order (i + 1)) (same_root roots i n so at) (passed_by roots i n (driver.Looks m) so at driven refl)
+  placed roots i n (driver.Equation (cell.Const c)) so at driven = subst (AreRootsTo f.drivers f.order (i + 1)) (same_root roots i n so at) (passed_by roots i n (driver.Equation (cell.Const c)) so at driven refl)
+  placed roots i n (driver.Equation (cell.Not a)) so at driven = subst (AreRootsTo f.drivers f.order (i + 1)) (same_root roots i n so at) (passed_by roots i n (driver.Equation (cell.Not a)) so at driven refl)
+  placed roots i n (driver.Equation (cell.Two o a b)) so at driven = subst (AreRootsTo f.drivers f.order (i + 1)) (same_root roots i n so at) (passed_by roots i n (driver.Equation (cell.Two o a b)) so at driven refl)
+  placed roots i n (driver.Equation (cell.Choose s a b)) so at driven = subst (AreRootsTo f.drivers f.order (i + 1)) (same_root roots i n so at) (passed_by roots i n (driver.Equation (cell.Choose s a b)) so at driven refl)
+  placed roots i n (driver.Equation (cell.Cat a b)) so at driven = subst (AreRootsTo f.drivers f.order (i + 1)) (same_root roots i n so at) (passed_by roots i n (driver.Equation (cell.Cat a b)) so at driven refl)
+  placed roots i n (driver.Equation (cell.Slice a h l)) so at driven = subst (AreRootsTo f.drivers f.order (i + 1)) (same_root roots i n so at) (passed_by roots i n (driver.Equation (cell.Slice a h l)) so at driven refl)
+
+  pub source_within : (i n : ℕ) (by : Driver) → slice_get f.order i ≡ Some n → slice_get f.drivers n ≡ Some by → (count : ℕ) → count ≡ length f.net.nets → SourceIsWithin count by
+  source_within i n driver.Given at driven count e = tt
+  source_within i n (driver.Looks m) at driven count e = tt
+  source_within i n (driver.Equation (cell.Const c)) at driven count e = tt
+  source_within i n (driver.Equation (cell.Copy w)) at driven count e = subst (λ k. w.number < k) (sym e) (source_before i n w at driven).0
+  source_within i n (driver.Equation (cell.Not a)) at driven count e = tt
+  source_within i n (driver.Equation (cell.Two o a b)) at driven count e = tt
+  source_within i n (driver.Equation (cell.Choose s a b)) at driven count e = tt
+  source_within i n (driver.Equation (cell.Cat a b)) at driven count e = tt
+  source_within i n (driver.Equation (cell.Slice a h l)) at driven count e = tt
 
   pub all_rooted : (roots : List ℕ) (i : ℕ) → length f.order ≤ i → AreRootsTo f.drivers f.order i roots → AreRoots f.drivers roots
   all_rooted roots i le so = record {

@@ -76,6 +76,18 @@ root_by roots n (driver.Equation (cell.Choose s a b)) = n
 root_by roots n (driver.Equation (cell.Cat a b)) = n
 root_by roots n (driver.Equation (cell.Slice a h l)) = n
 
+-- what it copies, if it copies, is among so many nets
+abbrev pub SourceIsWithin : ℕ → Driver → Type 0
+SourceIsWithin nets driver.Given = Unit {0}
+SourceIsWithin nets (driver.Looks m) = Unit {0}
+SourceIsWithin nets (driver.Equation (cell.Const c)) = Unit {0}
+SourceIsWithin nets (driver.Equation (cell.Copy w)) = w.number < nets
+SourceIsWithin nets (driver.Equation (cell.Not a)) = Unit {0}
+SourceIsWithin nets (driver.Equation (cell.Two o a b)) = Unit {0}
+SourceIsWithin nets (driver.Equation (cell.Choose s a b)) = Unit {0}
+SourceIsWithin nets (driver.Equation (cell.Cat a b)) = Unit {0}
+SourceIsWithin nets (driver.Equation (cell.Slice a h l)) = Unit {0}
+
 pub record AreRoots (drivers : List Driver) (roots : List ℕ) : Type 0 where
   pub long : length roots ≡ length drivers
   pub each : (n : ℕ) (by : Driver) → slice_get drivers n ≡ Some by → slice_index roots n ≡ root_by roots n by

@@ -34,8 +34,10 @@ impl Memory {
         requires room { length first.now ≤ 2 ^ bits }
         ensures { IfOk result (λ memory. memory ≡ record { room = 2 ^ bits; words = first.now }) }
     {
-        let mut words = vec![in alloc; 0; 1 << bits]?;
-        words[..first.len()].copy_from_slice(first);
+        let mut words = Vec::from_slice(alloc, first)?;
+        for _ in first.len()..1 << bits {
+            words.push(0)?;
+        }
         Ok(Memory {
             words,
             known: first.len(),

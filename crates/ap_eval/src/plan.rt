@@ -5,7 +5,7 @@ ghost use Rattle.ap_net.specs.declared.net.Next.{Next as DeclaredNext};
 ghost use Rattle.ap_flat.specs.declared.driver.Driver.{Driver as DeclaredDriver};
 ghost use Rattle.ap_net.specs.Cells.{CellFits};
 ghost use Rattle.ap_net.specs.Flat.{plain_nets};
-ghost use Rattle.ap_eval.specs.Ops.{AreRoots, CellReads, IsPlan, cell_shape, DriverReads, constant_of, driver_shape, first_values, mask_of, memory_at, ops_of, shape_of_net, two_shape};
+ghost use Rattle.ap_eval.specs.Ops.{AreRoots, CellReads, IsPlan, cell_shape, DriverReads, constant_of, driver_shape, first_values, mask_of, memory_at, SourceIsWithin, ops_of, root_by, shape_of_net, two_shape};
 
 use crate::bench::give_registers;
 use crate::op::{Op, Shape};
@@ -35,6 +35,17 @@ fn numbers(alloc: Global, count: usize) -> Result<Vec<usize>, NoMemory>
     Ok(numbers)
 }
 
+/// Where the value of this net stands, which has this driver, as far as it is known of others.
+fn root_of(roots: &[usize], driver: Driver, net: usize) -> usize
+    requires { SourceIsWithin (length roots.now) driver }
+    ensures { result ≡ root_by roots.now net driver }
+{
+    match driver {
+        Driver::Equation(Cell::Copy(from)) => roots[from.number],
+        _ => net,
+    }
+}
+
 /// Where the value of each net stands.
 fn roots_of(alloc: Global, flat: &Flat) -> Result<Vec<usize>, NoMemory>
     ensures { IfOk result (λ roots. AreRoots flat.now.drivers roots.items) }
@@ -44,9 +55,7 @@ fn roots_of(alloc: Global, flat: &Flat) -> Result<Vec<usize>, NoMemory>
     let mut roots = numbers(alloc, drivers.len())?;
     for net in flat.order() {
         let driver = drivers[*net];
-        if let Driver::Equation(Cell::Copy(from)) = driver {
-            roots[*net] = roots[from.number];
-        }
+        roots[*net] = root_of(&roots, driver, *net);
     }
     Ok(roots)
 }
