@@ -27,7 +27,7 @@ use Rattle.ap_flat.specs.declared.driver.Driver.{Driver}
 use Rattle.ap_flat.specs.declared.driver.Driver.TheVariants as driver
 use Rattle.ap_eval.specs.declared.op.Op.{Op}
 use Rattle.ap_eval.specs.declared.op.Shape.{Shape}
-use Rattle.ap_eval.specs.Ops.{AreRoots, cell_shape, computed, driver_shape, memory_at, net_shape, op_list, ops_of, root_by, shape_of_net, shape_value, width_of}
+use Rattle.ap_eval.specs.Ops.{AreRoots, CellReads, DriverReads, cell_shape, computed, driver_shape, memory_at, net_shape, op_list, ops_of, root_by, shape_of_net, shape_value, width_of}
 use Rattle.ap_eval.proofs.Ordering.{rank, rank_below, net_at_rank}
 use Rattle.ap_eval.proofs.CellValues.{ReadsAs, cell_is}
 
@@ -40,6 +40,13 @@ width_is : (xs : List FlatNet) (n w : ℕ) → slice_get (widths_of (plain_nets 
 width_is [] n w at = cc
 width_is (x ∷ xs) zero w at = cc
 width_is (x ∷ xs) (suc n) w at = width_is xs n w at
+
+-- what computes a net at which no memory's word stands
+pub plain_shape : (f : FlatParts) (roots : List ℕ) (n : ℕ) (net : FlatNet) (by : Driver) (q : Option ℕ) → q ≡ memory_at (first_mem_port f.outside) (length f.outside.mems) n → q ≡ None → slice_get f.net.nets n ≡ Some net → slice_get f.drivers n ≡ Some by
+    → driver_shape roots net.width (Some by) ≡ shape_of_net f roots n
+plain_shape f roots n net by q is none at driven =
+    (let a = sym at in let d = sym driven in λ i. driver_shape roots (width_of (a i)) (d i))
+    ∙ ap (net_shape f roots n) (sym none ∙ is)
 
 computed-append : (load : ℕ → ℕ → ℕ) (xs ys : List Op) (values : List ℕ) → computed load (xs ++ ys) values ≡ computed load ys (computed load xs values)
 computed-append load [] ys values = refl
@@ -73,6 +80,29 @@ module _ (f : FlatParts) (is : IsFlattened f) where
         low o.number (number-IsNet nets o (All-at (IsNet nets) (operands c) j o declared at)),
         rank_below f is n o.number lt (inl (record { place = d.place; equation = d.equation; among = d.among; drives = d.to; spot = j; operand = o; reads = subst (λ (x : Cell). slice_get (operands x) j ≡ Some o) (sym d.by) at; is = refl })),
       ))
+
+  pub cell_reads : (n : ℕ) (c : Cell) → Each (λ (o : Wire). (o.number < count) × (rank f is o.number < rank f is n)) (operands c) → CellReads count c
+  cell_reads n (cell.Const c) h = tt
+  cell_reads n (cell.Copy w) h = (h.0).0
+  cell_reads n (cell.Not a) h = (h.0).0
+  cell_reads n (cell.Two o a b) h = ((h.0).0, (h.1.0).0)
+  cell_reads n (cell.Choose s a b) h = ((h.0).0, (h.1.0).0, (h.1.1.0).0)
+  cell_reads n (cell.Cat a b) h = ((h.0).0, (h.1.0).0)
+  cell_reads n (cell.Slice a hi lo) h = (h.0).0
+
+  -- what is read for a net's driver is declared
+  pub driver_reads : (n long : ℕ) (by : Driver) (net : FlatNet) → n < count → long ≡ count → slice_get f.net.nets n ≡ Some net → slice_get f.drivers n ≡ Some by → DriverReads long net.width by
+  driver_reads n long driver.Given net lt e at driven = tt
+  driver_reads n long (driver.Looks m) net lt e at driven = tt
+  driver_reads n long (driver.Equation c) net lt e at driven =
+      let d = equation n c driven in
+      let fits = cell_fits n c d in
+      let wide : net.width ≡ d.equation.to.width = ap width_of (sym at) ∙ ap (λ k. width_of (slice_get f.net.nets k)) (sym d.to) ∙ width_is f.net.nets d.equation.to.number d.equation.to.width (fits.0).declared in
+      let low' : 1 ≤ d.equation.to.width = (fits.0).low in
+      let high' : d.equation.to.width ≤ 64 = (fits.0).high in
+      let l : 1 ≤ net.width = omega arith in
+      let h : net.width ≤ 64 = omega arith in
+      (l, h, subst (λ k. CellReads k c) (sym e) (cell_reads n c (operand_lower n c lt d)))
 
   pub driver_at : (n : ℕ) → n < count → (by : Driver) × (slice_get f.drivers n ≡ Some by)
   driver_at n lt = let e : length f.drivers ≡ count = is.drivers.long in some_at f.drivers n (omega arith)

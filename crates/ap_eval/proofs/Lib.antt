@@ -8,3 +8,5 @@ pub mod Edge
 pub mod Stepping
 pub mod MemoryLemmas
 pub mod Rooting
+pub mod Writing
+pub mod Fitting

@@ -139,3 +139,28 @@ module _ (f : FlatParts) (is : IsFlattened f) where
         let w : at.0 < length f.order = slice_get_within f.order at.0 n at.1 in
         so.done at.0 n by (omega arith) at.1 driven;
   }
+
+  -- one more place of the order, as a loop has it
+  module _ (order : List ℕ) (drivers : List Driver) (order_is : order ≡ f.order) (drivers_are : drivers ≡ f.drivers) (i : ℕ) (lt : i < length order) where
+    abbrev pub net : ℕ
+    net = get_or order i 0
+
+    net_at : slice_get f.order i ≡ Some net
+    net_at = subst (λ (l : List ℕ). slice_get l i ≡ Some net) order_is (got order i 0 lt)
+
+    pub net_low : net < length f.net.nets
+    net_low = is.order.within i net net_at
+
+    driven : slice_get f.drivers net ≡ Some (get_or drivers net driver.Given)
+    driven =
+        let e : length f.drivers ≡ length f.net.nets = is.drivers.long in
+        let n : net < length f.net.nets = net_low in
+        subst (λ (l : List Driver). slice_get l net ≡ Some (get_or drivers net driver.Given)) drivers_are (got drivers net driver.Given (subst (λ (l : List Driver). net < length l) (sym drivers_are) (omega arith)))
+
+    pub source_more : (count : ℕ) → count ≡ length f.net.nets → SourceIsWithin count (get_or drivers net driver.Given)
+    source_more count e = source_within i net (get_or drivers net driver.Given) net_at driven count e
+
+    pub root_more : (roots shown : List ℕ) (x : ℕ) → shown ≡ roots → x ≡ root_by shown net (get_or drivers net driver.Given) → AreRootsTo f.drivers f.order i roots → AreRootsTo f.drivers f.order (i + 1) (set roots net x)
+    root_more roots shown x same x_is so =
+        let e : root_by roots net (get_or drivers net driver.Given) ≡ x = ap (λ (l : List ℕ). root_by l net (get_or drivers net driver.Given)) (sym same) ∙ sym x_is in
+        subst (λ y. AreRootsTo f.drivers f.order (i + 1) (set roots net y)) e (placed roots i net (get_or drivers net driver.Given) so net_at driven)

@@ -213,15 +213,6 @@ pub record IsWithin (roots : List ℕ) (nets n : ℕ) : Type 0 where
   pub here : n < length roots
   pub there : slice_index roots n < nets
 
--- the address at which each data memory is written is one of its addresses
-abbrev pub DataAddressesFit : (ℕ → ℕ) → ℕ → List Cells → Type 0
-DataAddressesFit read port [] = Unit {0}
-DataAddressesFit read port (m ∷ memories) = (read (port + 3) < m.room) × DataAddressesFit read (port + 5) memories
-
-abbrev pub AddressesFit : (ℕ → ℕ) → ℕ → List Cells → Type 0
-AddressesFit read port [] = Unit {0}
-AddressesFit read port (m ∷ memories) = DataAddressesFit read port memories
-
 -- the values before the first cycle: those of constants, and what registers that are driven hold after the reset edge
 abbrev pub first_values : FlatParts → List ℕ
 first_values f = give_all f.net.nexts (map (λ (x : Next). reset_in f.net x.register.number) f.net.nexts) (map (λ (d : Driver). constant_of (Some d)) f.drivers)

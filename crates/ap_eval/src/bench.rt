@@ -1,5 +1,5 @@
 //! The bench.
-ghost use Rattle.std.specs.Prelude.{◌≡◌, ◌≤◌, ◌<◌, ◌+◌, ◌*◌, ◌^◌, ◌∷◌, ◌++◌, IfOk, OnOk, IsOk, IsTrue, ◌↔◌, ℕ, length, List, map, slice_index, slice_get, string_bytes, Bool};
+ghost use Rattle.std.specs.Prelude.{◌≡◌, ◌≤◌, ◌<◌, ◌+◌, ◌*◌, ◌-◌, ◌∷◌, ◌++◌, IfOk, OnOk, IsOk, IsTrue, ◌↔◌, ℕ, length, List, map, slice_index, slice_get, string_bytes, Bool};
 ghost use Rattle.std.specs.List.{AllByRecursion as Each};
 ghost use Rattle.ap_image.specs.FitsShape.{ImageFitsShape, LineFitsShape};
 ghost use Rattle.ap_image.specs.Kept.{IsKept};
@@ -10,7 +10,7 @@ ghost use Rattle.ap_eval.specs.Benches.{IsBenchOrder, IsGivenBy, StartsInRuns, S
 ghost use Rattle.ap_eval.specs.BenchViews.{rooms_by};
 ghost use Rattle.ap_eval.specs.Cells.{rooms_of, words_of};
 ghost use Rattle.ap_net.specs.declared.net.Next.{Next as DeclaredNext};
-ghost use Rattle.ap_eval.specs.Ops.{DataAddressesFit, IsWithin, OpFits, cells_after, computed, data_after, give_all, load_of, put_from, with_inputs};
+ghost use Rattle.ap_eval.specs.Ops.{IsWithin, OpFits, cells_after, computed, give_all, load_of, memories_after, put_from, with_inputs};
 
 use crate::memory::Memory;
 use crate::op::Op;
@@ -186,20 +186,19 @@ fn write_memory(roots: &[usize], port: usize, values: &[u64], memory: &mut Memor
     }
 }
 
-/// Writes data memories, the ports of the first of which begin with this one. There are few.
-fn write_data(roots: &[usize], port: usize, values: &[u64], memories: &mut [Memory])
-    requires within { (n : ℕ) → n < port + 5 * length memories.old
+/// Writes the data memories, the ports of the first of which begin with this one. The first memory is that of the code.
+fn write_memories(roots: &[usize], first: usize, values: &[u64], memories: &mut [Memory])
+    requires within { (n : ℕ) → n < first + 5 * (length memories.old - 1)
         → IsWithin roots.now (length values.now) n }
-    requires room { port + 5 * length memories.old < 2 ^ 64 }
-    requires fits { DataAddressesFit (λ n. slice_index values.now (slice_index roots.now n)) port memories.old }
-    ensures { memories.new ≡ data_after (λ n. slice_index values.now (slice_index roots.now n)) port memories.old }
+    requires fits { (k : ℕ) → k + 1 < length memories.old
+        → slice_index values.now (slice_index roots.now (first + 5 * k + 3))
+        < slice_index (rooms_of memories.old) (k + 1) }
+    ensures { memories.new ≡ memories_after (λ n. slice_index values.now (slice_index roots.now n)) first memories.old }
 {
-    match memories {
-        [memory, rest @ ..] => {
-            write_memory(roots, port, values, memory);
-            write_data(roots, port + MEM_PORTS, values, rest);
-        }
-        [] => {}
+    let mut port = first;
+    for number in 1..memories.len() {
+        write_memory(roots, port, values, &mut memories[number]);
+        port += MEM_PORTS;
     }
 }
 
@@ -262,7 +261,7 @@ impl<'a> Bench<'a> {
         put_inputs(input, &mut self.values);
         compute(&self.plan.ops, &self.memories, &mut self.values);
         show(roots, &self.values, &mut self.shown.values);
-        write_data(roots, first, &self.values, &mut self.memories[1..]);
+        write_memories(roots, first, &self.values, &mut self.memories);
         take_registers(roots, nexts, &self.values, &mut self.taken);
         give_registers(nexts, &self.taken, &mut self.values);
     }

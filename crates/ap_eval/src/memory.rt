@@ -35,7 +35,7 @@ impl Memory {
         ensures { IfOk result (λ memory. memory ≡ record { room = 2 ^ bits; words = first.now }) }
     {
         let mut words = Vec::from_slice(alloc, first)?;
-        for _ in first.len()..1 << bits {
+        for address in first.len()..1 << bits {
             words.push(0)?;
         }
         Ok(Memory {
