@@ -36,7 +36,7 @@ some_at [] n lt = absurd (omega arith)
 some_at (x ∷ xs) zero lt = (x, refl)
 some_at (x ∷ xs) (suc n) lt = some_at xs n (omega arith)
 
-width_is : (xs : List FlatNet) (n w : ℕ) → slice_get (widths_of (plain_nets xs)) n ≡ Some w → width_of (slice_get xs n) ≡ w
+pub width_is : (xs : List FlatNet) (n w : ℕ) → slice_get (widths_of (plain_nets xs)) n ≡ Some w → width_of (slice_get xs n) ≡ w
 width_is [] n w at = cc
 width_is (x ∷ xs) zero w at = cc
 width_is (x ∷ xs) (suc n) w at = width_is xs n w at

@@ -95,7 +95,7 @@ module _ (f : FlatParts) (is : IsFlattened f) where
   pub rest_named : (v : List ℕ) → length v ≡ length flat.nets → PortsNamed flat.nets v 3 rest
   rest_named v long = named_from flat.nets v rest 3 (λ i p at. port_named v long (suc (suc (suc i))) p (behind_three i p at) ∙ ap (slice_index v) (three i))
 
-  small : (v : List ℕ) → Solves flat v → Each (λ (p : Port). value_named flat.nets v p.name < 2 ^ p.width) (mem_ports o.mems ++ behind o)
+  pub small : (v : List ℕ) → Solves flat v → Each (λ (p : Port). value_named flat.nets v p.name < 2 ^ p.width) (mem_ports o.mems ++ behind o)
   small v s =
       let P : Port → Type 0 = λ p. value_named flat.nets v p.name < 2 ^ p.width in
       let all = subst (Each P) (ports_split o) (Each-at P (ports_of o) (λ n p at. port_small v s n p at)) in

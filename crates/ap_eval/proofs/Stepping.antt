@@ -38,7 +38,7 @@ use Rattle.ap_eval.specs.BenchViews.{IsReady, bench_state, net_state}
 use Rattle.ap_eval.specs.Cells.{Cells, first_words, other_words, rooms_of, words_of}
 use Rattle.ap_eval.specs.Ops.{AreRoots, computed, data_after, give_all, load_of, memories_after, ops_of, with_inputs}
 use Rattle.ap_eval.specs.Spots.{group_ports_count, group_size, group_spots, mem_spots, port_count_of, row_by, spots_of, stall_port, writes_by}
-use Rattle.ap_eval.proofs.Going.{cycle_on, fits_on, given, new, rest_named, solution}
+use Rattle.ap_eval.proofs.Going.{cycle_on, fits_on, given, new, rest_named, small, solution}
 use Rattle.ap_eval.proofs.Computing.{equation, holds}
 use Rattle.ap_eval.proofs.Beginning.{begun_long, computed_all, port_count, register_was, source_free, source_root}
 use Rattle.ap_eval.proofs.Edge.{computed-length, data_after-rooms, data_after-words, give_all-length, give_all-other, give_all-registers, group_spots-writes, held_read, mem_spots-writes, named_past_mems}
@@ -67,6 +67,17 @@ ports-length o =
     let d : length (input_ports o.inputs ++ (mem_ports o.mems ++ behind o)) ≡ length (input_ports o.inputs) + length (mem_ports o.mems ++ behind o) = length-append (input_ports o.inputs) (mem_ports o.mems ++ behind o) in
     let e : length (mem_ports o.mems ++ behind o) ≡ length (mem_ports o.mems) + length (behind o) = length-append (mem_ports o.mems) (behind o) in
     ap length (ports_split o) ∙ (let w : suc (suc (suc (length (input_ports o.inputs ++ (mem_ports o.mems ++ behind o))))) ≡ port_count_of o = omega arith in w)
+
+-- the address of a write is within its memory
+mem_small : (nets : List FlatNet) (v : List ℕ) (ms : List MemShape) (port : ℕ) (rest : List Port) → Each (λ (p : Port). value_named nets v p.name < 2 ^ p.width) (mem_ports ms ++ rest) → PortsNamed nets v port (mem_ports ms ++ rest)
+    → (k : ℕ) → k < length ms → slice_index v (port + 5 * k + 3) < slice_index (map (λ (m : MemShape). 2 ^ m.address) ms) k
+mem_small nets v [] port rest small named k lt = absurd (omega arith)
+mem_small nets v (m ∷ ms) port rest small named zero lt =
+    let e : suc (suc (suc port)) ≡ port + 5 * 0 + 3 = omega arith in
+    subst (λ x. x < 2 ^ m.address) (named.1.1.1.0 ∙ ap (slice_index v) e) small.1.1.1.0
+mem_small nets v (m ∷ ms) port rest small named (suc k) lt =
+    let e : suc (suc (suc (suc (suc port)))) + 5 * k + 3 ≡ port + 5 * suc k + 3 = omega arith in
+    subst (λ n. slice_index v n < slice_index (map (λ (m : MemShape). 2 ^ m.address) ms) k) e (mem_small nets v ms (suc (suc (suc (suc (suc port))))) rest small.1.1.1.1.1 named.1.1.1.1.1 k (omega arith))
 
 maps_same : {X : Type 0} (P : X → Type 0) (f g : X → ℕ) → ((x : X) → P x → f x ≡ g x) → (xs : List X) → Each P xs → map f xs ≡ map g xs
 maps_same P f g h [] each = refl
@@ -228,3 +239,17 @@ module _ (f : FlatParts) (is : IsFlattened f) where
       flat = refl;
       code = code_new memories;
     }
+
+    -- the addresses at which data memories are written are within them
+    pub addresses_fit : (k : ℕ) → k + 1 < length memories → read_at (first_mem_port o + 5 * k + 3) < slice_index (rooms_of memories) (k + 1)
+    addresses_fit k lt =
+        let long : length (rooms_of memories) ≡ length memories = simp length-map in
+        let rl : length (rooms_of memories) ≡ suc (length o.mems) = ap length ready.rooms ∙ ap suc (simp length-map) in
+        let low : k < length o.mems = omega arith in
+        let within : port_count_of o ≤ count = ports_within in
+        let here : first_mem_port o + 5 * k + 3 < count = omega arith in
+        let next : suc k ≡ k + 1 = omega arith in
+        let m = mem_small f.net.nets v o.mems (first_mem_port o) (behind o) (small f is v solves) named_mems k low in
+        let room : slice_index (map (λ (m : MemShape). 2 ^ m.address) o.mems) k ≡ slice_index (rooms_of memories) (k + 1) = ap (λ (l : List ℕ). slice_index l (suc k)) (sym ready.rooms) ∙ ap (slice_index (rooms_of memories)) next in
+        let x : slice_index v (first_mem_port o + 5 * k + 3) < slice_index (rooms_of memories) (k + 1) = subst (λ r. slice_index v (first_mem_port o + 5 * k + 3) < r) room m in
+        subst (λ r. r < slice_index (rooms_of memories) (k + 1)) (sym (reads (first_mem_port o + 5 * k + 3) here)) x

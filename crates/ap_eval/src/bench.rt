@@ -7,7 +7,7 @@ ghost use Rattle.ap_image.specs.RowTexts.{row_text};
 ghost use Rattle.ap_net.specs.Outside.{shape_of};
 ghost use Rattle.std.specs.Vec.{vec_capacity, vec_len};
 ghost use Rattle.ap_eval.specs.Benches.{IsBenchOrder, IsGivenBy, StartsInRuns, Steps, StepsInRuns, labels_by, row_limit_of, started};
-ghost use Rattle.ap_eval.specs.BenchViews.{rooms_by};
+ghost use Rattle.ap_eval.specs.BenchViews.{CanCycle, IsCycled, rooms_by};
 ghost use Rattle.ap_eval.specs.Cells.{rooms_of, words_of};
 ghost use Rattle.ap_net.specs.declared.net.Next.{Next as DeclaredNext};
 ghost use Rattle.ap_eval.specs.Ops.{IsWithin, OpFits, cells_after, computed, give_all, load_of, memories_after, put_from, with_inputs};
@@ -224,6 +224,32 @@ pub(crate) fn give_registers(nexts: &[Next], taken: &[u64], values: &mut [u64])
     }
 }
 
+/// One cycle: the ports' values are kept for the row, and memories and registers changed at the edge.
+fn cycle(
+    flat: &Flat,
+    plan: &Plan,
+    input: &TraceLine,
+    values: &mut [u64],
+    memories: &mut [Memory],
+    taken: &mut [u64],
+    shown: &mut [u64],
+)
+    requires { CanCycle flat.now plan.now.roots.items plan.now.ops.items input.now values.old memories.old
+        (length taken.old) (length shown.old) }
+    ensures { IsCycled flat.now plan.now.roots.items input.now values.old memories.old values.new memories.new
+        taken.new shown.new }
+{
+    flat.rules();
+    let first = first_mem_port(flat.outside());
+    let nexts = flat.nexts();
+    put_inputs(input, values);
+    compute(&plan.ops, memories, values);
+    show(&plan.roots, values, shown);
+    write_memories(&plan.roots, first, values, memories);
+    take_registers(&plan.roots, nexts, values, taken);
+    give_registers(nexts, taken, values);
+}
+
 impl<'a> Bench<'a> {
     /// A bench for the netlist that stands after the reset edge, with the memories of the image; words that the image doesn't
     /// give are 0. `NoMemory` comes only where memory ran out.
@@ -254,16 +280,15 @@ impl<'a> Bench<'a> {
         requires { LineFitsShape input.now (shape_of self.old.flat.outside) }
         ensures { Steps input.now self.old self.new }
     {
-        self.flat.rules();
-        let first = first_mem_port(self.flat.outside());
-        let nexts = self.flat.nexts();
-        let roots = self.plan.roots.as_slice();
-        put_inputs(input, &mut self.values);
-        compute(&self.plan.ops, &self.memories, &mut self.values);
-        show(roots, &self.values, &mut self.shown.values);
-        write_memories(roots, first, &self.values, &mut self.memories);
-        take_registers(roots, nexts, &self.values, &mut self.taken);
-        give_registers(nexts, &self.taken, &mut self.values);
+        cycle(
+            self.flat,
+            &self.plan,
+            input,
+            &mut self.values,
+            &mut self.memories,
+            &mut self.taken,
+            &mut self.shown.values,
+        );
     }
 
     /// The row of the last cycle, and an empty one before the first.
