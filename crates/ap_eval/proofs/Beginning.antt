@@ -208,7 +208,7 @@ module _ (f : FlatParts) (is : IsFlattened f) where
       room_from zero n e h three = omega arith
       room_from (suc k) n e h three = let last : 3 + k < count = h k (omega arith) in omega arith
 
-      inputs_room : 3 + length line.ports ≤ length (set values 2 (bit line.wait))
+      pub inputs_room : 3 + length line.ports ≤ length (set values 2 (bit line.wait))
       inputs_room =
           let l : length (set values 2 (bit line.wait)) ≡ length values = length-set values 2 (bit line.wait) in
           let r : length values ≡ count = ready.long in

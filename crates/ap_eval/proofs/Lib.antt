@@ -10,3 +10,4 @@ pub mod MemoryLemmas
 pub mod Rooting
 pub mod Writing
 pub mod Fitting
+pub mod Able
