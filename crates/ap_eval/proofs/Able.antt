@@ -19,7 +19,7 @@ use Rattle.ap_eval.specs.declared.spot.Spot.{Spot}
 use Rattle.ap_eval.specs.Benches.{Steps}
 use Rattle.ap_eval.specs.BenchViews.{CanCycle, IsCycled, IsReady, bench_state, read_by, settled_by}
 use Rattle.ap_eval.specs.Cells.{Cells, rooms_of}
-use Rattle.ap_eval.specs.Ops.{IsWithin, OpFits, computed, load_of, with_inputs}
+use Rattle.ap_eval.specs.Ops.{IsWithin, OpFits, computed, load_of, ops_of, with_inputs}
 use Rattle.ap_eval.specs.Spots.{port_count_of, spots_of}
 use Rattle.ap_eval.proofs.Beginning.{begun_long, inputs_room}
 use Rattle.ap_eval.proofs.Edge.{computed-length}
@@ -48,7 +48,7 @@ module _ (f : FlatParts) (is : IsFlattened f) (roots : List ℕ) (ops : List Op)
   pub ops_able : (begun : List ℕ) → begun ≡ with_inputs line values → (listed : List Op) → listed ≡ ops → Each (OpFits (length begun) (length memories)) listed
   ops_able begun e listed same =
       subst (Each (OpFits (length begun) (length memories))) (sym (same ∙ can.plan.listed))
-      (subst (λ n. Each (OpFits n (length memories)) _) (sym (begun_count begun e)) (subst (λ m. Each (OpFits count m) _) (sym memories_long) (ops_fit f is roots can.plan.rooted)))
+      (subst (λ n. Each (OpFits n (length memories)) (ops_of f roots f.order)) (sym (begun_count begun e)) (subst (λ m. Each (OpFits count m) (ops_of f roots f.order)) (sym memories_long) (ops_fit f is roots can.plan.rooted)))
 
   -- the values after the operations
   pub settled_are : (begun settled : List ℕ) (listed : List Op) → begun ≡ with_inputs line values → listed ≡ ops → settled ≡ computed (load_of memories) listed begun → settled ≡ settled_by f roots line values memories
