@@ -280,6 +280,7 @@ impl<'a> Bench<'a> {
         requires { LineFitsShape input.now (shape_of self.old.flat.outside) }
         ensures { Steps input.now self.old self.new }
     {
+        self.flat.rules();
         cycle(
             self.flat,
             &self.plan,
