@@ -1,12 +1,13 @@
 -- A bench stands in a state of a netlist's run: what it holds, and the steps from state to state.
-use Rattle.std.specs.Prelude.{◌≡◌, ℕ, ◌+◌, ◌<◌, ◌≤◌, List, [], ◌∷◌, ◌++◌, length, map, Option, None, Some, slice_get, sum_by, false}
+use Rattle.std.specs.Prelude.{◌≡◌, ℕ, ◌+◌, ◌<◌, ◌≤◌, List, [], ◌∷◌, ◌++◌, length, map, Option, None, Some, slice_get, sum_by, false, codes}
 use Rattle.ap_image.specs.declared.image.Image.{Image}
 use Rattle.ap_image.specs.declared.shape.MemShape.{MemShape}
 use Rattle.ap_image.specs.declared.trace.Trace.{Trace}
 use Rattle.ap_image.specs.declared.trace.TraceLine.{TraceLine}
 use Rattle.ap_image.specs.declared.row.Row.{Row}
 use Rattle.ap_image.specs.FitsShape.{line_at}
-use Rattle.ap_image.specs.RowTexts.{file_label}
+use Rattle.ap_image.specs.RowTexts.{file_label, index_text}
+use Rattle.std.specs.Fmt.{decimal}
 use Rattle.ap_net.specs.declared.net.FlatNet.{FlatNet}
 use Rattle.ap_net.specs.declared.net.Role.{Role}
 use Rattle.ap_net.specs.declared.net.Role.TheVariants as role
@@ -92,3 +93,7 @@ limit_by labels = 19 + sum_by (λ label. length label + 44) labels
 
 abbrev pub row_limit_of : Outside → ℕ
 row_limit_of o = limit_by (labels_by o)
+
+-- a write with this label, as it stands in a row's text
+abbrev pub labelled : List ℕ → Option ℕ → ℕ → List ℕ
+labelled label index value = codes " " ++ label ++ index_text index ++ codes "=" ++ decimal value

@@ -3,7 +3,7 @@ ghost use Rattle.std.specs.Prelude.{◌≡◌, ◌≢◌, ◌+◌, ◌<◌, ◌�
 ghost use Rattle.std.specs.Vec.{vec_capacity, vec_len};
 ghost use Rattle.ap_image.specs.Kept.{IsKept};
 ghost use Rattle.ap_image.specs.RowTexts.{index_text, label_of, row_text, state_text, write_text};
-ghost use Rattle.ap_eval.specs.Benches.{group_label, labels_by, limit_by};
+ghost use Rattle.ap_eval.specs.Benches.{group_label, labelled, labels_by, limit_by};
 ghost use Rattle.ap_eval.specs.Spots.{index_at};
 
 use crate::spot::Spot;
@@ -235,7 +235,13 @@ fn put_index(index: Option<u64>, out: &mut Vec<u8>) -> Result<(), NoMemory>
 }
 
 /// Appends a write with this label.
-fn put_write(label: &str, write: WriteView, out: &mut Vec<u8>) -> Result<(), NoMemory> {
+fn put_write(label: &str, write: WriteView, out: &mut Vec<u8>) -> Result<(), NoMemory>
+    ensures ok { OnOk result (out.new.items ≡ out.old.items ++ labelled label.now write.index write.value) }
+    ensures kept { IsKept out.old.items out.new.items }
+    ensures capacity { vec_capacity out.old ≤ vec_capacity out.new }
+    ensures succeeds { vec_len out.old + length (labelled label.now write.index write.value) ≤ vec_capacity out.old
+        → IsOk result }
+{
     out.push(b' ')?;
     out.extend_from_slice(label.as_bytes())?;
     put_index(write.index, out)?;
