@@ -7,7 +7,7 @@ ghost use Rattle.ap_image.specs.RowTexts.{row_text};
 ghost use Rattle.ap_net.specs.Outside.{shape_of};
 ghost use Rattle.std.specs.Vec.{vec_capacity, vec_len};
 ghost use Rattle.ap_eval.specs.Benches.{IsBenchOrder, IsGivenBy, StartsInRuns, Steps, StepsInRuns, labels_by, row_limit_of, started};
-ghost use Rattle.ap_eval.specs.BenchViews.{CanCycle, IsCycled, rooms_by};
+ghost use Rattle.ap_eval.specs.BenchViews.{CanCycle, IsCycled, IsShowing, rooms_by};
 ghost use Rattle.ap_eval.specs.Cells.{rooms_of, words_of};
 ghost use Rattle.ap_net.specs.declared.net.Next.{Next as DeclaredNext};
 ghost use Rattle.ap_eval.specs.Ops.{IsWithin, OpFits, cells_after, computed, give_all, load_of, memories_after, put_from, with_inputs};
@@ -74,9 +74,10 @@ fn memories_of(alloc: Global, flat: &Flat, image: &Image) -> Result<Vec<Memory>,
     let mut memories = Vec::new(alloc);
     let code = Memory::new(alloc, shape.code_address(), image.code.as_slice())?;
     memories.push(code)?;
+    let mems = shape.mems();
     let words = image.mems.as_slice();
-    for (number, mem) in shape.mems().iter().enumerate() {
-        let memory = Memory::new(alloc, mem.address, words[number].as_slice())?;
+    for number in 0..mems.len() {
+        let memory = Memory::new(alloc, mems[number].address, words[number].as_slice())?;
         memories.push(memory)?;
     }
     Ok(memories)
@@ -109,7 +110,11 @@ fn order_of(alloc: Global, flat: &Flat) -> Result<Vec<usize>, NoMemory>
 }
 
 /// What the ports show before the first cycle.
-fn nothing_shown(alloc: Global, flat: &Flat) -> Result<Shown, NoMemory> {
+fn nothing_shown(alloc: Global, flat: &Flat) -> Result<Shown, NoMemory>
+    ensures showing { IfOk result (λ made. IsShowing flat.now made.values.items made.spots.items (map string_bytes made.labels.items)) }
+    ensures limited { IfOk result (λ made. made.limit ≡ row_limit_of flat.now.outside) }
+    ensures nothing { IfOk result (λ made. (n : ℕ) → slice_index made.values.items n ≡ 0) }
+{
     flat.rules();
     let outside = flat.outside();
     let count = flat.nets().len();
