@@ -119,8 +119,8 @@ impl<'a> RowView<'a> {
         ensures none { IfNone result (slice_get self.now.writes i ≡ None) }
     {
         let mut left = i;
-        for (group, spot) in self.spots.iter().enumerate() {
-            if let Some(write) = write_at(self.shown, *spot, group) {
+        for group in 0..self.spots.len() {
+            if let Some(write) = write_at(self.shown, self.spots[group], group) {
                 if left == 0 {
                     return Some(write);
                 }
