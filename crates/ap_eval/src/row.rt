@@ -1,10 +1,11 @@
 //! What a cycle shows, and its text.
 ghost use Rattle.std.specs.Prelude.{◌≡◌, ◌≢◌, ◌+◌, ◌<◌, ◌≤◌, ◌++◌, IfNone, IfOk, IfSome, IsOk, None, OnOk, Some, decimal, length, map, slice_get, slice_index, string_bytes, unwrap_or};
+ghost use Rattle.std.specs.List.{flat_map};
 ghost use Rattle.std.specs.Vec.{vec_capacity, vec_len};
 ghost use Rattle.ap_image.specs.Kept.{IsKept};
 ghost use Rattle.ap_image.specs.RowTexts.{index_text, label_of, row_text, state_text, write_text};
 ghost use Rattle.ap_eval.specs.Benches.{group_label, labelled, labels_by, limit_by};
-ghost use Rattle.ap_eval.specs.Spots.{index_at};
+ghost use Rattle.ap_eval.specs.Spots.{index_at, writes_by};
 
 use crate::spot::Spot;
 use ap_bits::NoMemory;
@@ -250,31 +251,58 @@ fn put_write(label: &str, write: WriteView, out: &mut Vec<u8>) -> Result<(), NoM
     Ok(())
 }
 
-impl RowView<'_> {
-    /// Appends the writes.
-    fn put_writes(&self, labels: &[String], out: &mut Vec<u8>) -> Result<(), NoMemory> {
-        for (group, label) in labels.iter().enumerate() {
-            if group < self.spots.len() {
-                if let Some(write) = write_at(self.shown, self.spots[group], group) {
-                    put_write(label.as_str(), write, out)?;
-                }
-            }
-        }
-        Ok(())
+/// The label of a group or memory, and none where there is none.
+fn label_at(labels: &[String], group: usize) -> &str
+    ensures { result.now ≡ label_of (map string_bytes labels.now) group }
+{
+    match labels.get(group) {
+        Some(label) => label.as_str(),
+        None => "",
     }
+}
 
+/// Appends the writes that ports show at these spots.
+fn put_writes(
+    shown: &[u64],
+    spots: &[Spot],
+    labels: &[String],
+    out: &mut Vec<u8>,
+) -> Result<(), NoMemory>
+    ensures ok { OnOk result (out.new.items ≡ out.old.items
+        ++ flat_map (write_text (map string_bytes labels.now)) (writes_by shown.now 0 spots.now)) }
+    ensures kept { IsKept out.old.items out.new.items }
+    ensures capacity { vec_capacity out.old ≤ vec_capacity out.new }
+    ensures succeeds { vec_len out.old
+        + length (flat_map (write_text (map string_bytes labels.now)) (writes_by shown.now 0 spots.now))
+        ≤ vec_capacity out.old → IsOk result }
+{
+    for group in 0..spots.len() {
+        if let Some(write) = write_at(shown, spots[group], group) {
+            put_write(label_at(labels, group), write, out)?;
+        }
+    }
+    Ok(())
+}
+
+impl RowView<'_> {
     /// Appends the line of the row of this cycle.
+    #[tactic(auto, using(ap_image::proofs::Kept::kept))]
     pub(crate) fn put(
         &self,
         labels: &[String],
         cycle: u64,
         out: &mut Vec<u8>,
     ) -> Result<(), NoMemory>
+        ensures ok { OnOk result (out.new.items
+            ≡ out.old.items ++ row_text (map string_bytes labels.now) cycle self.now) }
+        ensures kept { IsKept out.old.items out.new.items }
+        ensures succeeds { vec_len out.old + length (row_text (map string_bytes labels.now) cycle self.now)
+            ≤ vec_capacity out.old → IsOk result }
     {
         put_number(cycle, out)?;
         out.push(b' ')?;
         out.extend_from_slice(state(self.stall(), self.kill()).as_bytes())?;
-        self.put_writes(labels, out)?;
+        put_writes(self.shown, self.spots, labels, out)?;
         out.push(b'\n')?;
         Ok(())
     }
