@@ -11,3 +11,4 @@ pub mod Rooting
 pub mod Writing
 pub mod Fitting
 pub mod Able
+pub mod Texts
