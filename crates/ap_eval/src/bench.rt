@@ -6,9 +6,10 @@ ghost use Rattle.ap_image.specs.Kept.{IsKept};
 ghost use Rattle.ap_image.specs.RowTexts.{row_text};
 ghost use Rattle.ap_net.specs.Outside.{shape_of};
 ghost use Rattle.std.specs.Vec.{vec_capacity, vec_len};
-ghost use Rattle.ap_eval.specs.Benches.{IsBenchOrder, IsGivenBy, StartsInRuns, Steps, StepsInRuns, labels_by, row_limit_of, started};
+ghost use Rattle.ap_eval.specs.Benches.{IsBenchOrder, IsGivenBy, StartsInRuns, Steps, StepsInRuns, labels_by, limit_by, row_limit_of, started};
 ghost use Rattle.ap_eval.specs.BenchViews.{CanCycle, IsCycled, IsShowing, rooms_by};
 ghost use Rattle.ap_eval.specs.Cells.{rooms_of, words_of};
+ghost use Rattle.ap_eval.specs.Spots.{row_by};
 ghost use Rattle.ap_net.specs.declared.net.Next.{Next as DeclaredNext};
 ghost use Rattle.ap_eval.specs.Ops.{IsWithin, OpFits, cells_after, computed, give_all, load_of, memories_after, put_from, with_inputs};
 
@@ -255,6 +256,13 @@ fn cycle(
     give_registers(nexts, taken, values);
 }
 
+/// No row that ports show is longer than the limit by its labels, up to cycle 1,000,000. It does nothing.
+fn rows_are_short(shown: &[u64], spots: &[Spot], labels: &[String])
+    ensures { (stall cycle : ℕ) → length spots.now ≤ length labels.now → cycle ≤ 1000000
+        → length (row_text (map string_bytes labels.now) cycle (row_by shown.now stall spots.now))
+        ≤ limit_by (map string_bytes labels.now) }
+{}
+
 impl<'a> Bench<'a> {
     /// A bench for the netlist that stands after the reset edge, with the memories of the image; words that the image doesn't
     /// give are 0. `NoMemory` comes only where memory ran out.
@@ -312,6 +320,7 @@ impl<'a> Bench<'a> {
         ensures bounds { (cycle : ℕ) → cycle ≤ 1000000
             → length (row_text (labels_by self.now.flat.outside) cycle self.now.row) ≤ result }
     {
+        rows_are_short(&self.shown.values, &self.shown.spots, &self.shown.labels);
         self.shown.limit
     }
 
@@ -325,6 +334,7 @@ impl<'a> Bench<'a> {
         ensures succeeds { vec_len out.old + row_limit_of self.now.flat.outside
             ≤ vec_capacity out.old → IsOk result }
     {
+        rows_are_short(&self.shown.values, &self.shown.spots, &self.shown.labels);
         self.row().put(&self.shown.labels, cycle, out)
     }
 
