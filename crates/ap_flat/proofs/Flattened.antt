@@ -12,13 +12,16 @@ use Rattle.ap_flat.specs.Dependence.{DependsIn, DependsOn, IsOrder}
 use Rattle.ap_flat.specs.Drivers.{AreDrivers}
 use Rattle.ap_flat.specs.PortNets.{BeginsWithPorts}
 use Rattle.ap_flat.specs.Ports.{AreDue}
+use Rattle.ap_flat.specs.Clocked.{AreAllClocked}
 use Rattle.ap_flat.specs.Flats.{FlatParts, IsFlattened}
 use Rattle.ap_flat.specs.FlatFaults.{flat_fault}
+use Rattle.ap_flat.proofs.Clocked.{netlist_clocked}
 use Rattle.ap_flat.proofs.TopPorts.{has_ports}
 
 pub flattened : (net : List ModuleText) (f : FlatParts) → IsNetlist net → f.net ≡ opened net → AreDrivers (opened net) (top_ports net) f.drivers → IsOrder (DependsIn net) (length (opened net).nets) f.order → AreDue (top_ports net) f.outside → IsFlattened f
 flattened net f kept same drivers order due = record {
   opened = subst IsOpenNetlist (sym same) (netlists_open net kept);
+  clocked = subst AreAllClocked (sym same) (netlist_clocked net kept);
   outside = due.outside;
   ports = subst (λ (g : Flat). BeginsWithPorts (ports_of f.outside) g.nets) (sym same) (subst (λ (ps : List Port). BeginsWithPorts ps (opened net).nets) due.same (has_ports net kept).begins);
   drivers = subst (λ (g : Flat). AreDrivers g (ports_of f.outside) f.drivers) (sym same) (subst (λ (ps : List Port). AreDrivers (opened net) ps f.drivers) due.same drivers);

@@ -14,3 +14,4 @@ pub mod Dues
 pub mod TopPorts
 pub mod Ordered
 pub mod Flattened
+pub mod Clocked

@@ -8,3 +8,4 @@ pub mod OpenedParts
 pub mod Ports
 pub mod Flats
 pub mod FlatFaults
+pub mod Clocked

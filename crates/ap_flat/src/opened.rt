@@ -2,6 +2,7 @@
 ghost use Rattle.std.specs.Prelude.{◌≡◌, List, Err, IfOk, length};
 ghost use Rattle.ap_net.specs.Modules.{ModuleText};
 ghost use Rattle.ap_net.specs.Flat.{opened, top_ports};
+ghost use Rattle.ap_flat.specs.Clocked.{OpenedAreClocked};
 ghost use Rattle.ap_flat.specs.Dependence.{DependsIn, IsLooped, IsOrder, IsRanked};
 ghost use Rattle.ap_flat.specs.Drivers.{AreDrivers};
 ghost use Rattle.ap_flat.specs.declared.order.OrderFault.TheVariants as fault;
@@ -70,6 +71,11 @@ pub fn open_in_order(alloc: Global, net: &Netlist) -> Result<Opened, OrderFault>
 /// A netlist whose nets have ranks that rise along all dependences has no loop.
 pub fn ranked_nets_have_no_loop()
     ensures { (net : List ModuleText) → IsRanked (DependsIn net) → IsLooped (DependsIn net) → ⊥ }
+{}
+
+/// Every register of a netlist that is opened over modules that keep their rules takes something at the edge.
+pub fn registers_are_clocked()
+    ensures { OpenedAreClocked }
 {}
 
 impl Opened {

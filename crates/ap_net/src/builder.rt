@@ -326,6 +326,23 @@ impl Builder {
         Ok(wire)
     }
 
+    /// A fresh wire that is driven later. After an error the builder is good for nothing but to be dropped.
+    pub fn late(&mut self, width: u32) -> Result<Wire, NoMemory>
+        requires fresh { CanFresh self.old }
+        requires low { 1 ≤ width }
+        requires high { width ≤ 64 }
+        ensures ok { OnOk result (self.new ≡ with_fresh self.old width) }
+        ensures wire { IfOk result (λ w. w ≡ next_wire self.old width) }
+        ensures late { IfOk result (IsLate self.new) }
+        ensures stay { OnOk result (StayLate self.old self.new) }
+        ensures fresh { OnOk result (CanFresh self.new) }
+        ensures names { OnOk result (KeepsNew self.old self.new) }
+    {
+        let _ = &self.nets;
+        let wire = self.next_fresh(width)?;
+        Ok(wire)
+    }
+
     /// A fresh wire for each of these ports that is an output. After an error the builder is good for nothing but to be dropped.
     fn fresh_outputs(&mut self, ports: &[Port]) -> Result<Items<Wire>, NoMemory>
         requires fresh { CanFresh self.old }

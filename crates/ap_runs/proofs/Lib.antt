@@ -1,4 +1,5 @@
 pub mod Absent
+pub mod FirstPorts
 pub mod FlatRuns
 pub mod ReadRuns
 pub mod Standing

@@ -1,1 +1,2 @@
 pub mod RunReadings
+pub mod FirstPorts

@@ -13,18 +13,24 @@ use Rattle.ap_net.specs.Cells.{IsNet}
 use Rattle.ap_net.specs.Draft.{Adds, Draft}
 use Rattle.ap_net.specs.Making.{Makes}
 use Rattle.ap_net.specs.Readings.{Carries}
-use Rattle.ap_net.proofs.Laws.{Carries-Makes, IsNet-Adds, IsNet-Makes, Makes-refl}
+use Rattle.ap_net.proofs.Laws.{Carries-Makes, IsNet-Adds, IsNet-Makes, Makes-refl, Reads-refl}
 use Rattle.ap_stage.specs.declared.source.Ground.{Ground}
 use Rattle.ap_stage.specs.declared.source.Scope.{Scope}
 use Rattle.ap_stage.specs.Sources.{IsGround, IsLineNet, IsOperandNet, IsRow, IsWired, source_numbers, value_of}
-use Rattle.ap_stage.specs.Wiring.{IsWiring}
+use Rattle.ap_stage.specs.Wiring.{IsWiring, ReadsOnly}
 use Rattle.ap_stage.proofs.Sourced.{among_inputs, among_regs}
 use Rattle.ap_stage.proofs.Listed.{each_at}
 use Rattle.ap_stage.proofs.Wired.{wiring_after, wiring_same, wiring_two}
 
+-- nothing was made
+pub only_none : (from : List ℕ) (a : Draft) → ReadsOnly from a a
+only_none from a = record { reads = Reads-refl from a; makes = Makes-refl a }
+
 -- what is said of a net that may be there, where it is and where it isn't
-pub none_made : {X : Type 0} (a b : Draft) (o : Option X) → o ≡ None → IfNone o (b ≡ a) → Makes a b
-none_made {X} a b o is h = let same : b ≡ a = subst (λ (x : Option X). IfNone x (b ≡ a)) is h in subst (Makes a) (sym same) (Makes-refl a)
+pub none_reads : {X : Type 0} (from : List ℕ) (a b : Draft) (o : Option X) → o ≡ None → IfNone o (b ≡ a) → ReadsOnly from a b
+none_reads {X} from a b o is h =
+    let same : b ≡ a = subst (λ (x : Option X). IfNone x (b ≡ a)) is h in
+    subst (ReadsOnly from a) (sym same) (only_none from a)
 
 pub found_some : {X P : Type 0} (o : Option X) (w : X) → o ≡ Some w → (P ↔ IsSome o) → P
 found_some o w is h = h.1 (subst IsSome (sym is) refl)

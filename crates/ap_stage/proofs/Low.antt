@@ -14,7 +14,7 @@ use Rattle.ap_stage.proofs.Shallow.{shallow_on}
 use Rattle.ap_stage.proofs.Wired.{all_of, each_of, none_over}
 
 -- one more net of the row
-each_set : (P : ℕ → Type 0) (row : List (Option Wire)) (i : ℕ) (w : Wire) → Each P (row_numbers row) → P w.number → Each P (row_numbers (slice_set row i (Some w)))
+pub each_set : (P : ℕ → Type 0) (row : List (Option Wire)) (i : ℕ) (w : Wire) → Each P (row_numbers row) → P w.number → Each P (row_numbers (slice_set row i (Some w)))
 each_set P [] i w h p = h
 each_set P (None ∷ row) zero w h p = (p, h)
 each_set P (Some x ∷ row) zero w h p = (p, h.1)

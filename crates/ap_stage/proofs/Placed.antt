@@ -16,7 +16,7 @@ use Rattle.ap_net.specs.Placing.{Places, fresh_nets, instance_in, merged, output
 use Rattle.ap_net.specs.Ready.{Ready, ReadyAfter}
 use Rattle.ap_net.proofs.Placing.{needed_merged}
 use Rattle.ap_unit.specs.Units.{Computes, ports_by}
-use Rattle.ap_stage.specs.Asks.{PlacesUnit}
+use Rattle.ap_stage.specs.Placed.{PlacesUnit}
 use Rattle.ap_stage.specs.Trees.{IsShallow, output}
 use Rattle.ap_stage.proofs.Listed.{get_last}
 

@@ -1,33 +1,29 @@
--- Units that are placed one after another, each when the nets of its users' operands are there.
-use Rattle.std.specs.Prelude.{◌≡◌, ◌⊎◌, ℕ, ◌<◌, ◌≤◌, List, Some, length, slice_get}
+-- Ports that are served one after another, each when the nets of its users' operands are there.
+use Rattle.std.specs.Prelude.{◌≡◌, ◌≢◌, ◌⊎◌, ℕ, ◌<◌, ◌≤◌, List, Some, length, slice_get}
 use Rattle.std.specs.List.{AllByRecursion as Each}
-use Rattle.ap_bits.specs.declared.card.Latency.TheVariants.{One}
 use Rattle.ap_desc.specs.Chains.{operands_of}
 use Rattle.ap_desc.specs.declared.design.Act.{Act}
 use Rattle.ap_desc.specs.declared.design.Act.TheVariants as act
 use Rattle.ap_desc.specs.declared.design.Arg.{Arg}
 use Rattle.ap_desc.specs.declared.design.Arg.TheVariants as arg
 use Rattle.ap_net.specs.declared.cell.Wire.{Wire}
-use Rattle.ap_net.specs.declared.net.Instance.{Instance}
-use Rattle.ap_net.specs.Draft.{Draft, names_of}
-use Rattle.ap_net.specs.Modules.{Connects, ModuleText}
-use Rattle.ap_net.specs.Names.{IsNetName, IsNew, IsNotNumbered}
-use Rattle.ap_net.specs.Placing.{Places}
-use Rattle.ap_unit.specs.Units.{ports_by}
-use Rattle.ap_merge.specs.Selects.{GoesOver, depth}
-use Rattle.ap_stage.specs.declared.chain.UnitNode.{UnitNode}
+use Rattle.ap_net.specs.Draft.{Draft}
+use Rattle.ap_net.specs.Modules.{ModuleText}
+use Rattle.ap_stage.specs.declared.chain.Node.{Node}
+use Rattle.ap_stage.specs.declared.chain.Node.TheVariants as node
 use Rattle.ap_stage.specs.declared.node.Course.{Course}
-use Rattle.ap_stage.specs.declared.node.UnitUse.{UnitUse}
+use Rattle.ap_stage.specs.declared.node.PortUse.{PortUse}
 use Rattle.ap_stage.specs.declared.row.Line.{Line}
 use Rattle.ap_stage.specs.declared.source.Ground.{Ground}
-use Rattle.ap_stage.specs.Courses.{FitsUnit, IsUnserved, users_of}
+use Rattle.ap_stage.specs.Courses.{users_of}
+use Rattle.ap_stage.specs.Served.{IsQuick, IsReader, IsServedQuick, IsServedRead, IsServedSlow, IsSlow, names_placed, port_of, wires_of}
 use Rattle.ap_stage.specs.Sources.{HasNet}
-use Rattle.ap_stage.specs.Trees.{IsShallow}
+use Rattle.ap_stage.specs.Users.{args_of}
 
--- the operand is the result of a unit, or is made of it by lines that use no port
-pub data TakesFrom (c : Course) (unit : ℕ) : Arg → Type 0 where
-  result : (k : ℕ) (u : UnitUse) → slice_get c.uses k ≡ Some u → u.unit ≡ unit → TakesFrom c unit (arg.Local u.local)
-  wired : (k j : ℕ) (l : Line) (a : Arg) → slice_get c.lines k ≡ Some l → slice_get (operands_of l.act) j ≡ Some a → TakesFrom c unit a → TakesFrom c unit (arg.Local l.local)
+-- the operand is the result of a port, or is made of it by lines that use no port
+pub data TakesFrom (c : Course) (port : ℕ) : Arg → Type 0 where
+  result : (k : ℕ) (u : PortUse) → slice_get c.uses k ≡ Some u → u.port ≡ port → TakesFrom c port (arg.Local u.local)
+  wired : (k j : ℕ) (l : Line) (a : Arg) → slice_get c.lines k ≡ Some l → slice_get (operands_of l.act) j ≡ Some a → TakesFrom c port a → TakesFrom c port (arg.Local l.local)
 
 -- the line uses no port but a register's or an input's
 abbrev pub IsPortless : Act → Type 0
@@ -40,66 +36,69 @@ IsPortless (act.Slice high low a) = Unit {0}
 IsPortless (act.Cat a b) = Unit {0}
 IsPortless _ = ⊥
 
--- a line of the instruction makes the local, or a unit gives it
+-- a line of the instruction makes the local, or a port gives it
 abbrev pub IsMadeByLine : Course → ℕ → Type 0
 IsMadeByLine c local = (k : ℕ) × (l : Line) × (slice_get c.lines k ≡ Some l) × (l.local ≡ local)
 
-abbrev pub IsGiven : Course → ℕ → Type 0
-IsGiven c local = (k : ℕ) × (u : UnitUse) × (slice_get c.uses k ≡ Some u) × (u.local ≡ local)
+abbrev pub IsGivenByPort : Course → ℕ → Type 0
+IsGivenByPort c local = (k : ℕ) × (u : PortUse) × (slice_get c.uses k ≡ Some u) × (u.local ≡ local)
 
--- the operand is no local, or one that has a net, that a line makes or that a unit gives
+-- the operand is no local, or one that has a net, that a line makes or that a port gives
 abbrev pub HasOrigin : Course → Arg → Type 0
-HasOrigin c (arg.Local i) = HasNet c.row.items (arg.Local i) ⊎ (IsMadeByLine c i ⊎ IsGiven c i)
+HasOrigin c (arg.Local i) = HasNet c.row.items (arg.Local i) ⊎ (IsMadeByLine c i ⊎ IsGivenByPort c i)
 HasOrigin c _ = Unit {0}
 
--- each operand of the instruction's lines comes from somewhere, and no two of its lines compute on one unit
+-- each operand of the instruction's lines comes from somewhere, and no two of its lines use one port
 pub record IsWhole (c : Course) : Type 0 where
   pub portless : Each (λ (l : Line). IsPortless l.act) c.lines
   pub lines : Each (λ (l : Line). Each (HasOrigin c) (operands_of l.act)) c.lines
-  pub uses : Each (λ (u : UnitUse). HasOrigin c u.asked.a × HasOrigin c u.asked.b) c.uses
-  pub once : (j k : ℕ) (one other : UnitUse) → slice_get c.uses j ≡ Some one → slice_get c.uses k ≡ Some other → one.unit ≡ other.unit → j ≡ k
+  pub uses : Each (λ (u : PortUse). Each (HasOrigin c) (args_of u.asked)) c.uses
+  pub once : (j k : ℕ) (one other : PortUse) → slice_get c.uses j ≡ Some one → slice_get c.uses k ≡ Some other → one.port ≡ other.port → j ≡ k
 
--- the units of the nodes before a place
-abbrev pub IsBefore : List UnitNode → ℕ → ℕ → Type 0
-IsBefore nodes place unit = (j : ℕ) × (node : UnitNode) × (j < place) × (slice_get nodes j ≡ Some node) × (node.unit ≡ unit)
+-- the ports of the nodes before a place
+abbrev pub IsBefore : List Node → ℕ → ℕ → Type 0
+IsBefore nodes place port = (j : ℕ) × (n : Node) × (j < place) × (slice_get nodes j ≡ Some n) × (port_of n ≡ port)
 
--- the operands of the unit's users take from these units alone
+-- the operands of a user take from these ports alone
+abbrev pub TakesBut : (ℕ → Type 0) → Course × PortUse → Type 0
+TakesBut Done user = Each (λ (a : Arg). (from : ℕ) → TakesFrom user.0 from a → Done from) (args_of user.1.asked)
+
+-- and those of all users of the port
 abbrev pub TakeFrom : (ℕ → Type 0) → ℕ → List Course → Type 0
-TakeFrom Done unit courses =
-    Each (λ (user : Course × UnitUse). (from : ℕ) → TakesFrom user.0 from user.1.asked.a ⊎ TakesFrom user.0 from user.1.asked.b → Done from) (users_of unit courses)
+TakeFrom Done port courses = Each (TakesBut Done) (users_of port courses)
 
--- The unit can be placed for these instructions: the module has its ports, the name is new, the lines that compute on it fit it, and the
--- locals of its results have no nets.
-pub record IsNode (d : Draft) (ground : Ground) (courses : List Course) (node : UnitNode) (m : ModuleText) : Type 0 where
-  pub ports : m.ports ≡ ports_by One node.select_width node.width
-  pub is_name : IsNetName node.name
-  pub other : IsNotNumbered node.name
-  pub new : IsNew node.name (names_of d)
-  pub some : 1 ≤ node.select_width
-  pub few : node.select_width ≤ 64
-  pub fit : Each (FitsUnit ground node.select_width node.width) (users_of node.unit courses)
-  pub over : GoesOver node.select 0 (length (users_of node.unit courses))
-  pub unserved : Each (IsUnserved node.unit) courses
+-- the port can be served for these instructions
+abbrev pub IsNode : Draft → Ground → List Course → List ModuleText → Node → Type 0
+IsNode d nets courses modules (node.Quick u) = (m : ModuleText) × (slice_get modules u.module ≡ Some m) × IsQuick d nets courses u m
+IsNode d nets courses modules (node.Slow u) = IsSlow d nets courses u
+IsNode d nets courses modules (node.Read p) = IsReader d nets courses p
 
--- from this place on the units can be placed, and take from those before them alone
-abbrev pub AreNodes : Draft → Ground → List Course → List UnitNode → List ModuleText → ℕ → Type 0
-AreNodes d ground courses nodes modules from = (place : ℕ) (node : UnitNode) (m : ModuleText) → from ≤ place → slice_get nodes place ≡ Some node → slice_get modules place ≡ Some m
-    → IsNode d ground courses node m × TakeFrom (IsBefore nodes place) node.unit courses
+-- from this place on the ports can be served, and take from those before them alone
+abbrev pub AreNodes : Draft → Ground → List Course → List Node → List ModuleText → ℕ → Type 0
+AreNodes d nets courses nodes modules from = (place : ℕ) (n : Node) → from ≤ place → slice_get nodes place ≡ Some n
+    → IsNode d nets courses modules n × TakeFrom (IsBefore nodes place) (port_of n) courses
 
--- no unit stands twice, and no name
-pub record AreApart (nodes : List UnitNode) : Type 0 where
-  pub units : (j k : ℕ) (one other : UnitNode) → slice_get nodes j ≡ Some one → slice_get nodes k ≡ Some other → one.unit ≡ other.unit → j ≡ k
-  pub names : (j k : ℕ) (one other : UnitNode) → slice_get nodes j ≡ Some one → slice_get nodes k ≡ Some other → one.name ≡ other.name → j ≡ k
+-- no net and no name stands in both
+pub record IsApart (one other : Node) : Type 0 where
+  pub port : port_of one ≢ port_of other
+  pub wires : Each (λ (w : Wire). Each (λ (x : Wire). x.number ≢ w.number) (wires_of other)) (wires_of one)
+  pub names : Each (λ name. Each (λ before. before ≢ name) (names_placed other)) (names_placed one)
 
--- the instance has this name and connects this unit, and before each of its nets stand no more `? :` than its selection asks questions
-pub record IsPlacedNode (d : Draft) (node : UnitNode) (m : ModuleText) (placed : Instance) : Type 0 where
-  pub named : placed.name ≡ node.name
-  pub connects : Connects m placed
-  pub low : Each (λ (w : Wire). IsShallow d (depth node.select) w.number) placed.nets
+-- no port stands twice, and no wire and no name
+abbrev pub AreApart : List Node → Type 0
+AreApart nodes = (j k : ℕ) (one other : Node) → slice_get nodes j ≡ Some one → slice_get nodes k ≡ Some other → j ≢ k → IsApart one other
 
--- one instance was placed for each of the first so many units, and no other
-pub record PlacesNodes (nodes : List UnitNode) (modules : List ModuleText) (count : ℕ) (old new : Draft) : Type 0 where
-  pub placed : List Instance
-  pub long : length placed ≡ count
-  pub places : Places placed old new
-  pub are : (place : ℕ) (node : UnitNode) (m : ModuleText) (i : Instance) → slice_get nodes place ≡ Some node → slice_get modules place ≡ Some m → slice_get placed place ≡ Some i → IsPlacedNode new node m i
+-- the port serves these instructions
+abbrev pub IsServedNode : Draft → Ground → List ModuleText → List Course → Node → Type 0
+IsServedNode d nets modules courses (node.Quick u) = IsServedQuick d nets modules u courses
+IsServedNode d nets modules courses (node.Slow u) = IsServedSlow d nets u courses
+IsServedNode d nets modules courses (node.Read p) = IsServedRead d nets p courses
+
+-- each port that an instruction uses is one of these
+abbrev pub UsesOnly : List Node → Course → Type 0
+UsesOnly nodes c = Each (λ (u : PortUse). IsBefore nodes (length nodes) u.port) c.uses
+
+-- each local that the instruction's lines make has its net
+pub record IsFull (c : Course) : Type 0 where
+  pub lines : Each (λ (l : Line). HasNet c.row.items (arg.Local l.local)) c.lines
+  pub uses : Each (λ (u : PortUse). HasNet c.row.items (arg.Local u.local)) c.uses

@@ -1,8 +1,12 @@
-pub mod Asks
 pub mod Chained
 pub mod Courses
 pub mod Offers
+pub mod Placed
+pub mod Reads
+pub mod Resting
 pub mod Rows
+pub mod Served
+pub mod Shown
 pub mod Slots
 pub mod Sources
 pub mod Trees

@@ -1,37 +1,54 @@
--- What an instruction asks of a unit that one of its lines uses.
-use Rattle.std.specs.Prelude.{◌≡◌, ℕ, List, Option}
+-- What an instruction asks of a port whose result one of its lines gives its local.
+use Rattle.std.specs.Prelude.{◌≡◌, ℕ, ◌<◌, ◌≤◌, ◌^◌, List, [], ◌∷◌, Option, None, Some, length}
 use Rattle.std.specs.List.{AllByRecursion as Each}
+use Rattle.ap_desc.specs.Designs.{IsArg}
+use Rattle.ap_desc.specs.declared.design.Arg.{Arg}
 use Rattle.ap_net.specs.declared.cell.Wire.{Wire}
-use Rattle.ap_net.specs.Draft.{Draft}
-use Rattle.ap_net.specs.Late.{Reads}
-use Rattle.ap_net.specs.Making.{Makes}
-use Rattle.ap_net.specs.Pending.{IsFrom}
-use Rattle.ap_net.specs.Readings.{Carries}
-use Rattle.ap_stage.specs.declared.ask.Ask.{Ask}
+use Rattle.ap_net.specs.Readings.{Reading}
 use Rattle.ap_stage.specs.declared.source.Ground.{Ground}
 use Rattle.ap_stage.specs.declared.source.Scope.{Scope}
-use Rattle.ap_stage.specs.declared.user.Use.{Use}
-use Rattle.ap_stage.specs.Sources.{HasNet, IsOperandNet}
-use Rattle.ap_stage.specs.Trees.{StandsOver}
+use Rattle.ap_stage.specs.declared.user.Asked.{Asked}
+use Rattle.ap_stage.specs.declared.user.Asked.TheVariants as asked
+use Rattle.ap_stage.specs.declared.user.Handed.{Handed}
+use Rattle.ap_stage.specs.declared.user.Handed.TheVariants as given
+use Rattle.ap_stage.specs.declared.user.Part.{Part}
+use Rattle.ap_stage.specs.declared.user.Part.TheVariants as part
+use Rattle.ap_stage.specs.Sources.{HasNet, bits_of, value_of}
 
--- this is asked under the condition: the operation by its number, and the operands by their nets
-pub record IsAskOf (d : Draft) (ground : Ground) (scope : Scope) (row : List (Option Wire)) (cond : Wire) (s : ℕ) (u : Use) (k : Ask) : Type 0 where
-  pub cond_is : k.cond ≡ cond
-  pub sel : Carries d s (λ r x. x ≡ u.op) k.sel
-  pub a : IsOperandNet d ground scope row u.a k.a
-  pub b : IsOperandNet d ground scope row u.b k.b
+-- the operands of what is asked
+abbrev pub args_of : Asked → List Arg
+args_of (asked.Operate u) = u.a ∷ u.b ∷ []
+args_of (asked.Read index) = index ∷ []
 
--- both operands have nets
-abbrev pub CanAsk : List (Option Wire) → Use → Type 0
-CanAsk row u = HasNet row u.a × HasNet row u.b
+-- what is handed in in for a part, where the port has one
+abbrev pub handed_in : Asked → Part → Option Handed
+handed_in (asked.Operate u) part.Operation = Some (given.Number u.op)
+handed_in (asked.Operate u) part.First = Some (given.Operand u.a)
+handed_in (asked.Operate u) part.Second = Some (given.Operand u.b)
+handed_in (asked.Read index) part.Operation = None
+handed_in (asked.Read index) part.First = Some (given.Operand index)
+handed_in (asked.Read index) part.Second = None
 
--- the net is one of these, or came, and no more `? :` stand before it than before these
-pub record IsWiredOver (from : List ℕ) (old new : Draft) (w : Wire) : Type 0 where
-  pub result : IsFrom from old new w.number
-  pub shallow : StandsOver 0 from old new w.number
+-- an operand is one of the instruction
+abbrev pub IsHanded : Scope → Handed → Type 0
+IsHanded scope (given.Number n) = Unit {0}
+IsHanded scope (given.Operand a) = IsArg (length scope.widths) scope.fields a
 
--- wires were made that read these of the nets that were there, and so are these nets
-pub record AreWiring (from : List ℕ) (old new : Draft) (nets : List Wire) : Type 0 where
-  pub reads : Reads from old new
-  pub makes : Makes old new
-  pub results : Each (IsWiredOver from old new) nets
+-- a number has room in so many bits, and an operand has so many
+abbrev pub FitsHanded : Ground → Scope → ℕ → Handed → Type 0
+FitsHanded nets scope w (given.Number n) = (1 ≤ w) × (w ≤ 64) × (n < 2 ^ w)
+FitsHanded nets scope w (given.Operand a) = bits_of nets scope a ≡ w
+
+-- an operand has its net
+abbrev pub HasHanded : List (Option Wire) → Handed → Type 0
+HasHanded row (given.Number n) = Unit {0}
+HasHanded row (given.Operand a) = HasNet row a
+
+-- the value of what is handed in in
+abbrev pub handed_value : Reading → Ground → Scope → List (Option Wire) → Handed → ℕ
+handed_value r nets scope row (given.Number n) = n
+handed_value r nets scope row (given.Operand a) = value_of r nets scope row a
+
+-- all operands have nets
+abbrev pub CanAsk : List (Option Wire) → Asked → Type 0
+CanAsk row a = Each (HasNet row) (args_of a)

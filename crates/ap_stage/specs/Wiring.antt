@@ -2,6 +2,7 @@
 use Rattle.std.specs.Prelude.{ℕ, List}
 use Rattle.ap_net.specs.declared.cell.Wire.{Wire}
 use Rattle.ap_net.specs.Draft.{Draft}
+use Rattle.ap_net.specs.Late.{Reads}
 use Rattle.ap_net.specs.Making.{Makes}
 use Rattle.ap_net.specs.Pending.{Yields}
 use Rattle.ap_stage.specs.Trees.{StandsOver}
@@ -12,3 +13,8 @@ pub record IsWiring (from : List ℕ) (old new : Draft) (w : Wire) : Type 0 wher
   pub yields : Yields from old new w
   pub makes : Makes old new
   pub shallow : StandsOver 0 from old new w.number
+
+-- Wires were made that read these of the nets that were there.
+pub record ReadsOnly (from : List ℕ) (old new : Draft) : Type 0 where
+  pub reads : Reads from old new
+  pub makes : Makes old new

@@ -3,9 +3,8 @@ ghost use Rattle.std.specs.Prelude.{◌≡◌, ◌↔◌, ◌<◌, IfNone, IfOk,
 ghost use Rattle.ap_desc.specs.Designs.{IsArg};
 ghost use Rattle.ap_desc.specs.declared.design.Act.TheVariants as act;
 ghost use Rattle.ap_net.specs.Draft.{CanFresh};
-ghost use Rattle.ap_net.specs.Making.{Makes};
 ghost use Rattle.ap_stage.specs.Sources.{HasNet, HasRoom, IsGround, IsLineNet, IsRow, IsWired, LieIn, NamesNets, source_numbers};
-ghost use Rattle.ap_stage.specs.Wiring.{IsWiring};
+ghost use Rattle.ap_stage.specs.Wiring.{IsWiring, ReadsOnly};
 
 use crate::source::{Ground, Scope, operand_net};
 use crate::wiring::{constant, joined, sign_extended, sliced, zero_extended};
@@ -51,7 +50,8 @@ fn zext_net(
         IfSome o (IsLineNet out.new ground.now scope.now row.now (act.Zext width a))) }
     ensures wiring { IfOk result (λ o.
         IfSome o (IsWiring (source_numbers ground.now row.now) out.old out.new)) }
-    ensures none { IfOk result (λ o. IfNone o (Makes out.old out.new)) }
+    ensures none { IfOk result (λ o.
+        IfNone o (ReadsOnly (source_numbers ground.now row.now) out.old out.new)) }
     ensures found { IfOk result (λ o. IsWired row.now (act.Zext width a) ↔ IsSome o) }
 {
     let found = operand_net(out, ground, scope, row, a)?;
@@ -81,7 +81,8 @@ fn sext_net(
         IfSome o (IsLineNet out.new ground.now scope.now row.now (act.Sext width a))) }
     ensures wiring { IfOk result (λ o.
         IfSome o (IsWiring (source_numbers ground.now row.now) out.old out.new)) }
-    ensures none { IfOk result (λ o. IfNone o (Makes out.old out.new)) }
+    ensures none { IfOk result (λ o.
+        IfNone o (ReadsOnly (source_numbers ground.now row.now) out.old out.new)) }
     ensures found { IfOk result (λ o. IsWired row.now (act.Sext width a) ↔ IsSome o) }
 {
     let found = operand_net(out, ground, scope, row, a)?;
@@ -112,7 +113,8 @@ fn slice_net(
         IfSome o (IsLineNet out.new ground.now scope.now row.now (act.Slice high low a))) }
     ensures wiring { IfOk result (λ o.
         IfSome o (IsWiring (source_numbers ground.now row.now) out.old out.new)) }
-    ensures none { IfOk result (λ o. IfNone o (Makes out.old out.new)) }
+    ensures none { IfOk result (λ o.
+        IfNone o (ReadsOnly (source_numbers ground.now row.now) out.old out.new)) }
     ensures found { IfOk result (λ o. IsWired row.now (act.Slice high low a) ↔ IsSome o) }
 {
     let found = operand_net(out, ground, scope, row, a)?;
@@ -143,7 +145,8 @@ fn cat_net(
         IfSome o (IsLineNet out.new ground.now scope.now row.now (act.Cat a b))) }
     ensures wiring { IfOk result (λ o.
         IfSome o (IsWiring (source_numbers ground.now row.now) out.old out.new)) }
-    ensures none { IfOk result (λ o. IfNone o (Makes out.old out.new)) }
+    ensures none { IfOk result (λ o.
+        IfNone o (ReadsOnly (source_numbers ground.now row.now) out.old out.new)) }
     ensures found { IfOk result (λ o. IsWired row.now (act.Cat a b) ↔ IsSome o) }
 {
     let first = operand_net(out, ground, scope, row, a)?;
@@ -177,7 +180,8 @@ pub fn line_net(
         IfSome o (IsLineNet out.new ground.now scope.now row.now line)) }
     ensures wiring { IfOk result (λ o.
         IfSome o (IsWiring (source_numbers ground.now row.now) out.old out.new)) }
-    ensures none { IfOk result (λ o. IfNone o (Makes out.old out.new)) }
+    ensures none { IfOk result (λ o.
+        IfNone o (ReadsOnly (source_numbers ground.now row.now) out.old out.new)) }
     ensures found { IfOk result (λ o. IsWired row.now line ↔ IsSome o) }
 {
     match line {

@@ -1,36 +1,30 @@
-//! A unit of a stage, placed for all instructions that use it, and the locals that its result gives.
-ghost use Rattle.std.specs.Prelude.{◌≡◌, ◌≢◌, ◌↔◌, ◌∷◌, [], ◌<◌, ◌≤◌, ◌==◌, codes, find, length, slice_get, IfOk, IfSome, IsSome, IsTrue, None, OnOk, Some, ℕ, false};
+//! The instructions of a stage, and the locals that the results of ports give them.
+ghost use Rattle.std.specs.Prelude.{◌≡◌, ◌≢◌, ◌∷◌, ◌==◌, find, length, slice_get, None, OnOk, Some, ℕ};
 ghost use Rattle.std.specs.List.{AllByRecursion as Each};
-ghost use Rattle.ap_bits.specs.declared.card.Latency.TheVariants.{One};
 ghost use Rattle.ap_desc.specs.Designs.{width_at};
 ghost use Rattle.ap_net.specs.Cells.{IsNet};
-ghost use Rattle.ap_net.specs.Draft.{CanFresh, names_of};
+ghost use Rattle.ap_net.specs.Draft.{CanFresh};
 ghost use Rattle.ap_net.specs.Making.{Makes};
-ghost use Rattle.ap_net.specs.Names.{IsNetName, IsNew, IsNotNumbered};
-ghost use Rattle.ap_unit.specs.Units.{ports_by};
-ghost use Rattle.ap_merge.specs.Selects.{GoesOver};
-ghost use Rattle.ap_stage.specs.declared.node.UnitUse.{UnitUse};
-ghost use Rattle.ap_stage.specs.Courses.{AddsAsks, CanServe, FitsUnit, GoOn, GoesOn, HasResult, IsCourse, IsResultWide, IsServed, IsUnserved, PlacesOnce, use_of, users_of};
+ghost use Rattle.ap_stage.specs.declared.node.PortUse.{PortUse};
+ghost use Rattle.ap_stage.specs.Courses.{GoOn, GoesOn, HasResult, IsCourse, IsResultWide, IsUnserved, course_numbers, courses_numbers, use_of};
+ghost use Rattle.ap_stage.specs.Reads.{AreFrom};
 ghost use Rattle.ap_stage.specs.Rows.{AreClosed, AreLines, AreMade, Keeps, MakesNone};
 ghost use Rattle.ap_stage.specs.Sources.{IsGround, IsRow, LieIn, source_numbers};
 ghost use Rattle.ap_stage.specs.Trees.{IsShallow};
 
-use crate::ask::{Ask, share_unit};
 use crate::row::{Line, put, sweep};
 use crate::source::{Ground, Scope};
-use crate::user::{Use, ask_of};
+use crate::user::Asked;
 use ap_bits::{Items, NoMemory};
-use ap_merge::Select;
 use ap_net::builder::Builder;
 use ap_net::cell::Wire;
-use ap_net::module::Module;
 
-/// A line of an instruction that computes on a unit.
+/// A line of an instruction that uses a port whose result it gives its local.
 #[derive(Clone, Copy, Debug, PartialEq, Eq)]
-pub struct UnitUse {
-    /// The number of the unit.
-    pub unit: u32,
-    pub asked: Use,
+pub struct PortUse {
+    /// The number by which the stage knows the port.
+    pub port: u32,
+    pub asked: Asked,
     /// The number of the local that the line makes.
     pub local: u32,
 }
@@ -41,98 +35,27 @@ pub struct Course {
     /// One bit: 1 exactly where the stage's word matches the instruction.
     pub cond: Wire,
     pub scope: Scope,
-    /// The lines of the stage that make locals without a unit.
+    /// The lines of the stage that make locals without such a port.
     pub lines: Items<Line>,
-    /// Those that compute on units.
-    pub uses: Items<UnitUse>,
+    /// Those that use one.
+    pub uses: Items<PortUse>,
     /// The nets of the instruction's locals, as far as they are made.
     pub row: Vec<Option<Wire>>,
 }
 
-/// The first of these lines that computes on a unit, if one does.
-fn first_use(uses: &[UnitUse], unit: u32) -> Option<UnitUse>
-    ensures { result ≡ find (λ (u : UnitUse). u.unit == unit) uses.now }
+/// The first of these lines that uses a port, if one does.
+fn first_use(uses: &[PortUse], port: u32) -> Option<PortUse>
+    ensures { result ≡ find (λ (u : PortUse). u.port == port) uses.now }
 {
-    uses.iter().find(|used| used.unit == unit).copied()
+    uses.iter().find(|used| used.port == port).copied()
 }
 
-/// The line of an instruction that computes on a unit, if one does.
-fn use_of(course: &Course, unit: u32) -> Option<UnitUse>
-    ensures { result ≡ use_of unit course.now }
+/// The line of an instruction that uses a port, if one does.
+pub(crate) fn use_of(course: &Course, port: u32) -> Option<PortUse>
+    ensures { result ≡ use_of port course.now }
 {
     let uses = course.uses.as_slice();
-    first_use(uses, unit)
-}
-
-/// Adds what an instruction asks of a unit, where a line of it computes on it. Answers whether that line's operands have nets.
-fn add_ask(
-    out: &mut Builder,
-    ground: &Ground,
-    course: &Course,
-    unit: u32,
-    select_width: u32,
-    width: u32,
-    asks: &mut Items<Ask>,
-) -> Result<bool, NoMemory>
-    requires fresh { CanFresh out.old }
-    requires ground { IsGround out.old.nets ground.now }
-    requires course { IsCourse out.old ground.now course.now }
-    requires fits { Each (FitsUnit ground.now select_width width) (users_of unit (course.now ∷ [])) }
-    requires low { 1 ≤ select_width }
-    requires high { select_width ≤ 64 }
-    ensures asks { IfOk result (λ done. IsTrue done
-        → AddsAsks out.new ground.now select_width (users_of unit (course.now ∷ [])) asks.old asks.new) }
-    ensures found { IfOk result (λ done. CanServe (users_of unit (course.now ∷ [])) ↔ IsTrue done) }
-    ensures makes { OnOk result (Makes out.old out.new) }
-{
-    let Some(used) = use_of(course, unit) else {
-        return Ok(true);
-    };
-    let row = course.row.as_slice();
-    let found = ask_of(
-        out,
-        ground,
-        &course.scope,
-        row,
-        course.cond,
-        used.asked,
-        select_width,
-    )?;
-    let Some(ask) = found else {
-        return Ok(false);
-    };
-    asks.push(ask)?;
-    Ok(true)
-}
-
-/// What all instructions ask of a unit that use it, in their order, where their operands have nets.
-fn asks_of(
-    out: &mut Builder,
-    ground: &Ground,
-    courses: &[Course],
-    unit: u32,
-    select_width: u32,
-    width: u32,
-) -> Result<Option<Items<Ask>>, NoMemory>
-    requires fresh { CanFresh out.old }
-    requires ground { IsGround out.old.nets ground.now }
-    requires courses { Each (IsCourse out.old ground.now) courses.now }
-    requires fit { Each (FitsUnit ground.now select_width width) (users_of unit courses.now) }
-    requires low { 1 ≤ select_width }
-    requires high { select_width ≤ 64 }
-    ensures asks { IfOk result (λ o. IfSome o
-        (AddsAsks out.new ground.now select_width (users_of unit courses.now) [])) }
-    ensures found { IfOk result (λ o. CanServe (users_of unit courses.now) ↔ IsSome o) }
-    ensures makes { OnOk result (Makes out.old out.new) }
-{
-    let mut asks = Items::new(out.allocator());
-    for course in courses {
-        let done = add_ask(out, ground, course, unit, select_width, width, &mut asks)?;
-        if !done {
-            return Ok(None);
-        }
-    }
-    Ok(Some(asks))
+    first_use(uses, port)
 }
 
 /// Puts a net at the place of a local that no line makes, and gives nets to the locals that can be had then.
@@ -165,6 +88,8 @@ fn take_net(
     ensures others { OnOk result ((j : ℕ) → j ≢ local → MakesNone lines.now j
         → slice_get row.new j ≡ slice_get row.old j) }
     ensures low { OnOk result (Each (IsShallow out.new 0) (source_numbers ground.now row.new)) }
+    ensures from { OnOk result (AreFrom (net.number ∷ source_numbers ground.now row.old) out.old
+        out.new (source_numbers ground.now row.new)) }
     ensures makes { OnOk result (Makes out.old out.new) }
 {
     put(row, local, net);
@@ -172,27 +97,29 @@ fn take_net(
     Ok(())
 }
 
-/// Gives the unit's result to the local of the line that computes on it, and nets to the locals that can be had then.
+/// Gives a port's result to the local of the line that uses it, and nets to the locals that can be had then.
 fn take_result(
     out: &mut Builder,
     ground: &Ground,
     course: &mut Course,
-    unit: u32,
+    port: u32,
     y: Wire,
 ) -> Result<(), NoMemory>
     requires fresh { CanFresh out.old }
     requires ground { IsGround out.old.nets ground.now }
     requires course { IsCourse out.old ground.now course.old }
-    requires unserved { IsUnserved unit course.old }
+    requires unserved { IsUnserved port course.old }
     requires y { IsNet out.old.nets y }
-    requires wide { IsResultWide y.width unit course.old }
+    requires wide { IsResultWide y.width port course.old }
     requires low { IsShallow out.old 0 y.number }
     ensures course { OnOk result (IsCourse out.new ground.now course.new) }
-    ensures goes_on { OnOk result (GoesOn unit course.old course.new) }
-    ensures has { OnOk result (HasResult unit y course.new) }
+    ensures goes_on { OnOk result (GoesOn port course.old course.new) }
+    ensures has { OnOk result (HasResult port y course.new) }
+    ensures from { OnOk result (AreFrom (y.number ∷ course_numbers ground.now course.old) out.old
+        out.new (course_numbers ground.now course.new)) }
     ensures makes { OnOk result (Makes out.old out.new) }
 {
-    let Some(used) = use_of(course, unit) else {
+    let Some(used) = use_of(course, port) else {
         return Ok(());
     };
     let lines = course.lines.as_slice();
@@ -208,81 +135,30 @@ fn take_result(
     Ok(())
 }
 
-/// Gives the unit's result to all instructions that use it.
-fn take_results(
+/// Gives a port's result to all instructions that use it.
+pub(crate) fn take_results(
     out: &mut Builder,
     ground: &Ground,
     courses: &mut [Course],
-    unit: u32,
+    port: u32,
     y: Wire,
 ) -> Result<(), NoMemory>
     requires fresh { CanFresh out.old }
     requires ground { IsGround out.old.nets ground.now }
     requires courses { Each (IsCourse out.old ground.now) courses.old }
-    requires unserved { Each (IsUnserved unit) courses.old }
+    requires unserved { Each (IsUnserved port) courses.old }
     requires y { IsNet out.old.nets y }
-    requires wide { Each (IsResultWide y.width unit) courses.old }
+    requires wide { Each (IsResultWide y.width port) courses.old }
     requires low { IsShallow out.old 0 y.number }
     ensures courses { OnOk result (Each (IsCourse out.new ground.now) courses.new) }
-    ensures go_on { OnOk result (GoOn unit courses.old courses.new) }
-    ensures has { OnOk result (Each (HasResult unit y) courses.new) }
+    ensures go_on { OnOk result (GoOn port courses.old courses.new) }
+    ensures has { OnOk result (Each (HasResult port y) courses.new) }
+    ensures from { OnOk result (AreFrom (y.number ∷ courses_numbers ground.now courses.old) out.old
+        out.new (courses_numbers ground.now courses.new)) }
     ensures makes { OnOk result (Makes out.old out.new) }
 {
     for course in courses.iter_mut() {
-        take_result(out, ground, course, unit, y)?;
+        take_result(out, ground, course, port, y)?;
     }
     Ok(())
-}
-
-/// Places a unit that takes one cycle once for all instructions that use it, and gives its result to their locals. Nothing is placed where
-/// an operand has no net. In every netlist whose module of the unit's name computes by a card, the result is the value of that user's
-/// operation on its operands whose condition alone is 1.
-pub fn serve_unit(
-    out: &mut Builder,
-    name: &[u8],
-    unit: &Module,
-    number: u32,
-    ground: &Ground,
-    courses: &mut [Course],
-    select: &Select,
-    select_width: u32,
-    width: u32,
-) -> Result<bool, NoMemory>
-    requires top { out.old.name ≡ codes "top" }
-    requires fresh { CanFresh out.old }
-    requires is_name { IsNetName name.now }
-    requires name { IsNew name.now (names_of out.old) }
-    requires other { IsNotNumbered name.now }
-    requires unit { unit.now.ports ≡ ports_by One select_width width }
-    requires ground { IsGround out.old.nets ground.now }
-    requires courses { Each (IsCourse out.old ground.now) courses.old }
-    requires unserved { Each (IsUnserved number) courses.old }
-    requires fit { Each (FitsUnit ground.now select_width width) (users_of number courses.old) }
-    requires over { GoesOver select.now 0 (length (users_of number courses.old)) }
-    requires low { 1 ≤ select_width }
-    requires high { select_width ≤ 64 }
-    ensures courses { OnOk result (Each (IsCourse out.new ground.now) courses.new) }
-    ensures go_on { OnOk result (GoOn number courses.old courses.new) }
-    ensures served { IfOk result (λ done. IsTrue done
-        → IsServed out.new ground.now unit.now.name number width courses.new) }
-    ensures places { IfOk result (λ done. IsTrue done
-        → PlacesOnce name.now unit.now select.now out.old out.new) }
-    ensures none { IfOk result (λ done. done ≡ false → Makes out.old out.new) }
-    ensures found { IfOk result (λ done. CanServe (users_of number courses.old) ↔ IsTrue done) }
-{
-    let found = asks_of(out, ground, courses, number, select_width, width)?;
-    let Some(asks) = found else {
-        return Ok(false);
-    };
-    let y = share_unit(
-        out,
-        name,
-        unit,
-        select,
-        asks.as_slice(),
-        select_width,
-        width,
-    )?;
-    take_results(out, ground, courses, number, y)?;
-    Ok(true)
 }

@@ -2,8 +2,9 @@
 ghost use Rattle.std.specs.Prelude.{◌≡◌, ◌<◌, OnOk, Some, length, slice_set};
 ghost use Rattle.ap_net.specs.Draft.{CanFresh};
 ghost use Rattle.ap_net.specs.Making.{Makes};
+ghost use Rattle.ap_stage.specs.Reads.{AreFrom};
 ghost use Rattle.ap_stage.specs.Rows.{AreClosed, AreLines, AreMade, Fills, IsLine, Keeps, StaysElse, StaysLow};
-ghost use Rattle.ap_stage.specs.Sources.{IsGround, IsRow, LieIn};
+ghost use Rattle.ap_stage.specs.Sources.{IsGround, IsRow, LieIn, source_numbers};
 
 use crate::line::line_net;
 use crate::source::{Ground, Scope, net_at};
@@ -44,6 +45,8 @@ fn fill(
     ensures row { OnOk result (IsRow out.new.nets scope.now row.new) }
     ensures fills { OnOk result (Fills out.new ground.now scope.now row.old row.new line) }
     ensures low { OnOk result (StaysLow ground.now out.old row.old out.new row.new) }
+    ensures from { OnOk result (AreFrom (source_numbers ground.now row.old) out.old out.new
+        (source_numbers ground.now row.new)) }
     ensures makes { OnOk result (Makes out.old out.new) }
 {
     let had = net_at(row, line.local);
@@ -79,6 +82,8 @@ pub fn sweep(
     ensures keeps { OnOk result (Keeps row.old row.new) }
     ensures others { OnOk result (StaysElse lines.now row.old row.new) }
     ensures low { OnOk result (StaysLow ground.now out.old row.old out.new row.new) }
+    ensures from { OnOk result (AreFrom (source_numbers ground.now row.old) out.old out.new
+        (source_numbers ground.now row.new)) }
     ensures makes { OnOk result (Makes out.old out.new) }
 {
     for line in lines {

@@ -6,8 +6,8 @@ ghost use Rattle.ap_net.specs.Draft.{CanFresh};
 ghost use Rattle.ap_net.specs.Making.{Makes};
 ghost use Rattle.ap_net.specs.Readings.{Carries};
 ghost use Rattle.ap_stage.specs.declared.slot.Stored.{Stored};
-ghost use Rattle.ap_stage.specs.Slots.{AreStoredOnce, HasStored, IsStored};
-ghost use Rattle.ap_stage.specs.Sources.{IsRow};
+ghost use Rattle.ap_stage.specs.Slots.{AreStoredOnce, FromSlots, HasStored, IsStored};
+ghost use Rattle.ap_stage.specs.Sources.{IsRow, row_numbers};
 ghost use Rattle.ap_stage.specs.Wiring.{IsWiring};
 
 use crate::row::put;
@@ -73,9 +73,11 @@ fn fill_slots(
     requires stored { Each (IsStored out.old.nets scope.now) stored.now }
     requires once { AreStoredOnce stored.now }
     requires row { IsRow out.old.nets scope.now row.old }
+    requires none { row_numbers row.old ≡ [] }
     ensures row { OnOk result (IsRow out.new.nets scope.now row.new) }
     ensures stored { OnOk result ((k : ℕ) (s : Stored)
         → slice_get stored.now k ≡ Some s → HasStored out.new scope.now row.new s) }
+    ensures slots { OnOk result (FromSlots stored.now out.old row.old out.new row.new) }
     ensures makes { OnOk result (Makes out.old out.new) }
 {
     for one in stored {
@@ -97,6 +99,8 @@ pub fn slot_row(
     ensures row { IfOk result (λ row. IsRow out.new.nets scope.now row.items) }
     ensures stored { IfOk result (λ row. (k : ℕ) (s : Stored)
         → slice_get stored.now k ≡ Some s → HasStored out.new scope.now row.items s) }
+    ensures slots { IfOk result (λ row. FromSlots stored.now out.old
+        (replicate (length scope.now.widths) None) out.new row.items) }
     ensures makes { IfOk result (λ row. Makes out.old out.new) }
 {
     let mut row = empty_row(out.allocator(), scope)?;

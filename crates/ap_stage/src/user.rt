@@ -1,12 +1,11 @@
-//! What an instruction asks of a unit that one of its lines uses.
-ghost use Rattle.std.specs.Prelude.{◌≡◌, ◌↔◌, ◌∷◌, [], ◌<◌, ◌≤◌, ◌^◌, length, IfNone, IfOk, IfSome, IsSome};
-ghost use Rattle.ap_desc.specs.Designs.{IsArg};
+//! What an instruction asks of a port whose result one of its lines gives its local.
+ghost use Rattle.std.specs.Prelude.{◌≡◌, IfOk};
 ghost use Rattle.ap_net.specs.Draft.{CanFresh};
-ghost use Rattle.ap_net.specs.Making.{Makes};
+ghost use Rattle.ap_net.specs.Readings.{Carries};
 ghost use Rattle.ap_stage.specs.Sources.{IsGround, IsRow, LieIn, source_numbers};
-ghost use Rattle.ap_stage.specs.Users.{AreWiring, CanAsk, IsAskOf};
+ghost use Rattle.ap_stage.specs.Users.{FitsHanded, HasHanded, IsHanded, handed_in, handed_value};
+ghost use Rattle.ap_stage.specs.Wiring.{IsWiring};
 
-use crate::ask::Ask;
 use crate::source::{Ground, Scope, operand_net};
 use crate::wiring::constant;
 use ap_bits::NoMemory;
@@ -25,40 +24,84 @@ pub struct Use {
     pub b: Arg,
 }
 
-/// What is asked for a line under a condition, where both operands have nets.
-pub fn ask_of(
+/// What a line asks of a port.
+#[derive(Clone, Copy, Debug, PartialEq, Eq)]
+pub enum Asked {
+    /// An operation of a unit.
+    Operate(Use),
+    /// What a file or a memory has at an index.
+    Read(Arg),
+}
+
+/// A part of what is asked: it has a net of its own at the port.
+#[derive(Clone, Copy, Debug, PartialEq, Eq)]
+pub enum Part {
+    /// The number of the operation.
+    Operation,
+    /// The first operand, or the index of what is read.
+    First,
+    /// The second operand.
+    Second,
+}
+
+/// What is handed in in for a part.
+#[derive(Clone, Copy, Debug, PartialEq, Eq)]
+pub enum Handed {
+    /// A number that stands in the description.
+    Number(u32),
+    /// An operand.
+    Operand(Arg),
+}
+
+/// What is handed in in for a part, where the port has one.
+pub fn handed_in(asked: Asked, part: Part) -> Option<Handed>
+    ensures { result ≡ handed_in asked part }
+{
+    match asked {
+        Asked::Operate(used) => match part {
+            Part::Operation => Some(Handed::Number(used.op)),
+            Part::First => Some(Handed::Operand(used.a)),
+            Part::Second => Some(Handed::Operand(used.b)),
+        },
+        Asked::Read(index) => match part {
+            Part::First => Some(Handed::Operand(index)),
+            _ => None,
+        },
+    }
+}
+
+/// The net of what is handed in in, with `width` bits, where an operand has its net.
+pub fn handed_net(
     out: &mut Builder,
     ground: &Ground,
     scope: &Scope,
     row: &[Option<Wire>],
-    cond: Wire,
-    asked: Use,
-    select_width: u32,
-) -> Result<Option<Ask>, NoMemory>
+    given: Handed,
+    width: u32,
+) -> Result<Wire, NoMemory>
     requires fresh { CanFresh out.old }
     requires ground { IsGround out.old.nets ground.now }
     requires fields { LieIn ground.now.word.width scope.now }
     requires row { IsRow out.old.nets scope.now row.now }
-    requires a { IsArg (length scope.now.widths) scope.now.fields asked.a }
-    requires b { IsArg (length scope.now.widths) scope.now.fields asked.b }
-    requires op { asked.op < 2 ^ select_width }
-    requires low { 1 ≤ select_width }
-    requires high { select_width ≤ 64 }
-    ensures ask { IfOk result (λ o. IfSome o
-        (IsAskOf out.new ground.now scope.now row.now cond select_width asked)) }
-    ensures wiring { IfOk result (λ o. IfSome o (λ k.
-        AreWiring (source_numbers ground.now row.now) out.old out.new (k.sel ∷ k.a ∷ k.b ∷ []))) }
-    ensures none { IfOk result (λ o. IfNone o (Makes out.old out.new)) }
-    ensures found { IfOk result (λ o. CanAsk row.now asked ↔ IsSome o) }
+    requires given { IsHanded scope.now given }
+    requires fits { FitsHanded ground.now scope.now width given }
+    requires has { HasHanded row.now given }
+    ensures carries { IfOk result (Carries out.new width (λ r x.
+        x ≡ handed_value r ground.now scope.now row.now given)) }
+    ensures wiring { IfOk result
+        (IsWiring (source_numbers ground.now row.now) out.old out.new) }
 {
-    let sel = constant(out, select_width, u64::from(asked.op))?;
-    let first = operand_net(out, ground, scope, row, asked.a)?;
-    let Some(a) = first else {
-        return Ok(None);
-    };
-    let second = operand_net(out, ground, scope, row, asked.b)?;
-    let Some(b) = second else {
-        return Ok(None);
-    };
-    Ok(Some(Ask { cond, sel, a, b }))
+    match given {
+        Handed::Number(number) => {
+            let net = constant(out, width, u64::from(number))?;
+            Ok(net)
+        }
+        Handed::Operand(arg) => {
+            let found = operand_net(out, ground, scope, row, arg)?;
+            let Some(net) = found else {
+                unreachable!();
+            };
+            Ok(net)
+        }
+    }
 }

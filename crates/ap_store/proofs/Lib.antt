@@ -1,6 +1,6 @@
 mod CellLaws
 mod Ranges
-mod FileShapes
+pub mod FileShapes
 mod Orders
 mod Hot
 mod Lines

@@ -8,7 +8,7 @@ mod decoder;
 mod file;
 mod order;
 mod reads;
-mod shape;
+pub mod shape;
 mod writes;
 
 pub use file::{build_file, cells_go_alone, file_module, files_depend};

@@ -5,7 +5,7 @@ ghost use Rattle.ap_desc.specs.Designs.{index_bits, is_file_within};
 use ap_desc::design::File;
 
 /// How many bits number the cells of a file.
-pub(crate) fn index_width(file: &File) -> u32
+pub fn index_width(file: &File) -> u32
     requires { IsTrue (is_file_within file.now) }
     ensures bits { result ≡ index_bits file.now }
     ensures cells { 2 ^ result ≡ file.now.cells }

@@ -6,8 +6,9 @@ use Rattle.ap_net.specs.declared.cell.Wire.{Wire}
 use Rattle.ap_net.specs.Cells.{IsNet}
 use Rattle.ap_net.specs.Draft.{Draft}
 use Rattle.ap_stage.specs.declared.node.Course.{Course}
-use Rattle.ap_stage.specs.declared.node.UnitUse.{UnitUse}
+use Rattle.ap_stage.specs.declared.node.PortUse.{PortUse}
 use Rattle.ap_stage.specs.declared.source.Ground.{Ground}
+use Rattle.ap_stage.specs.declared.user.Asked.TheVariants as asked
 use Rattle.ap_stage.specs.Trees.{IsShallow}
 
 -- the stage has this word, which is its address too, and neither registers nor inputs
@@ -28,8 +29,8 @@ pub record HasWord (d : Draft) (word : Wire) : Type 0 where
 abbrev pub whole_field : Field
 whole_field = record { name = codes "f"; width = 8; low = 0 }
 
-abbrev pub doubled : UnitUse
-doubled = record { unit = 0; asked = record { op = 0; a = arg.Field 0; b = arg.Field 0 }; local = 0 }
+abbrev pub doubled : PortUse
+doubled = record { port = 0; asked = asked.Operate (record { op = 0; a = arg.Field 0; b = arg.Field 0 }); local = 0 }
 
 -- the instruction has this condition, and its one line is that sum
 pub record IsDoubling (cond : Wire) (c : Course) : Type 0 where

@@ -5,7 +5,7 @@ ghost use Rattle.ap_bits.specs.declared.card.Latency.TheVariants.{One};
 ghost use Rattle.ap_net.specs.Draft.{CanFresh};
 ghost use Rattle.ap_net.specs.Making.{Makes};
 ghost use Rattle.ap_unit.specs.Units.{ports_by};
-ghost use Rattle.ap_stage.specs.Courses.{FitsUnit, IsCourse, IsUnserved, users_of};
+ghost use Rattle.ap_stage.specs.Courses.{CanServe, FitsUnit, IsCourse, IsUnserved, users_of};
 ghost use Rattle.stage_tests.specs.Doubling.{HasWord, IsDoubling, IsWordGround};
 
 use crate::evaluate::Bench;
@@ -16,9 +16,10 @@ use ap_desc::design::{Arg, Field};
 use ap_net::builder::Builder;
 use ap_net::cell::Wire;
 use ap_net::module::Module;
-use ap_stage::node::{Course, UnitUse, serve_unit};
+use ap_stage::node::{Course, PortUse};
+use ap_stage::serve::{QuickUnit, serve_quick};
 use ap_stage::source::{Ground, Scope};
-use ap_stage::user::Use;
+use ap_stage::user::{Asked, Use};
 use ap_stage::wiring::constant;
 use ap_unit::UnitKind;
 use std::alloc::Global;
@@ -48,7 +49,7 @@ fn word_ground(alloc: Global, word: Wire) -> Ground
     }
 }
 
-/// An instruction with a field of 8 bits, whose one line adds the field to itself on the unit 0.
+/// An instruction with a field of 8 bits, whose one line adds the field to itself on the port 0.
 fn doubling(alloc: Global, cond: Wire) -> Result<Course, NoMemory>
     ensures { IfOk result (IsDoubling cond) }
 {
@@ -58,13 +59,13 @@ fn doubling(alloc: Global, cond: Wire) -> Result<Course, NoMemory>
         width: 8,
         low: 0,
     })?;
-    let asked = Use {
+    let asked = Asked::Operate(Use {
         op: 0,
         a: Arg::Field(0),
         b: Arg::Field(0),
-    };
-    let used = UnitUse {
-        unit: 0,
+    });
+    let used = PortUse {
+        port: 0,
         asked,
         local: 0,
     };
@@ -93,6 +94,7 @@ fn nine_courses(
     ensures courses { IfOk result (λ all. Each (IsCourse out.new ground.now) all.items) }
     ensures unserved { IfOk result (λ all. Each (IsUnserved 0) all.items) }
     ensures fit { IfOk result (λ all. Each (FitsUnit ground.now 4 8) (users_of 0 all.items)) }
+    ensures can { IfOk result (λ all. CanServe (users_of 0 all.items)) }
     ensures count { IfOk result (λ all. length (users_of 0 all.items) ≡ 9) }
     ensures makes { OnOk result (Makes out.old out.new) }
 {
@@ -107,38 +109,28 @@ fn nine_courses(
 }
 
 /// A module with an adder that nine instructions use, each for the double of the word 21. It shows the word.
-fn nine_users(alloc: Global, on: usize) -> Result<Option<Module>, NoMemory> {
+fn nine_users(alloc: Global, on: usize) -> Result<Module, NoMemory> {
     let mut out = Builder::new(alloc, b"top")?;
     let word = constant(&mut out, 8, 21)?;
     let ground = word_ground(alloc, word);
     let mut courses = nine_courses(&mut out, word, &ground, on)?;
     let unit = adder(alloc)?;
-    let select = halves(alloc, 0, 9)?;
-    let done = serve_unit(
-        &mut out,
-        b"u_U",
-        &unit,
-        0,
-        &ground,
-        &mut courses,
-        &select,
-        4,
-        8,
-    )?;
-    if !done {
-        return Ok(None);
-    }
-    let module = shown(out, word, 8)?;
-    Ok(Some(module))
+    let quick = QuickUnit {
+        port: 0,
+        select: halves(alloc, 0, 9)?,
+        name: Items::copy_of(alloc, b"u_U")?,
+        module: 0,
+        select_width: 4,
+        width: 8,
+    };
+    serve_quick(&mut out, &ground, &mut courses, &quick, &unit)?;
+    shown(out, word, 8)
 }
 
 #[test]
 fn nine_users_have_one_instance(rt: HostRuntime) -> Result<(), Fail> {
     for on in 0..9usize {
-        let Some(module) = nine_users(rt.alloc(), on)? else {
-            assert!(rt; false);
-            return Ok(());
-        };
+        let module = nine_users(rt.alloc(), on)?;
         assert_eq!(rt; module.instances().len(), 1);
         let mut bench = Bench::new(rt.alloc(), &module)?;
         bench.run(&module);

@@ -1,21 +1,23 @@
-use Rattle.std.proofs.Common.{sym, ◌∙◌}
-use Rattle.std.proofs.lemmas.Bool.{false≢true}
+use Rattle.std.proofs.Common.{length, refl}
+use Rattle.std.proofs.lemmas.Option.{slice_get_read, slice_get_within}
+use Rattle.ap_stage.proofs.Chained.{ready_quick, served_quick}
 use Rattle.ap_stage.proofs.chain.serve_node.Goals as goal
 
-pub serve_unit-requires-clause-is_name : goal.serve_unit-requires-clause-is_name
-serve_unit-requires-clause-is_name c = rw c.as_slice-name.ensures c.requires.node.is_name
+pub returns-in_ok-serve_quick-in-Quick-clause-served : goal.returns-in_ok-serve_quick-in-Quick-clause-served
+returns-in_ok-serve_quick-in-Quick-clause-served c =
+    let node = rw c.in-Quick.is at c.requires.node in
+    let modules = c.args.modules.now in
+    let u = c.in-Quick.unit in
+    let inside = slice_get_within modules u.module node.0 node.1 in
+    let at = slice_get_read modules (length modules) u.module c.index-modules-unit.result refl inside c.index-modules-unit.is in
+    let y = c.in_ok-serve_quick-in-Quick.ensures in
+    rw c.in-Quick.is (served_quick _ _ c.args.ground.now modules u c.index-modules-unit.result _ at y.served y.places)
 
-pub serve_unit-requires-clause-name : goal.serve_unit-requires-clause-name
-serve_unit-requires-clause-name c = rw c.as_slice-name.ensures c.requires.node.new
+pub returns-in_ok-serve_quick-in-Quick-clause-ready : goal.returns-in_ok-serve_quick-in-Quick-clause-ready
+returns-in_ok-serve_quick-in-Quick-clause-ready c = rw c.in-Quick.is (ready_quick c.args.ground.now c.in-Quick.unit _ _ c.args.courses.now _ c.in_ok-serve_quick-in-Quick.ensures.from)
 
-pub serve_unit-requires-clause-other : goal.serve_unit-requires-clause-other
-serve_unit-requires-clause-other c = rw c.as_slice-name.ensures c.requires.node.other
+pub returns-in_ok-serve_slow-in-Slow-clause-ready : goal.returns-in_ok-serve_slow-in-Slow-clause-ready
+returns-in_ok-serve_slow-in-Slow-clause-ready c = rw c.in-Slow.is c.in_ok-serve_slow-in-Slow.ensures.ready
 
-pub returns-clause-served : goal.returns-clause-served
-returns-clause-served c = c.in_ok-done.ensures.served c.if-not-done.false
-
-pub returns-clause-places : goal.returns-clause-places
-returns-clause-places c = rw c.as_slice-name.ensures at (c.in_ok-done.ensures.places c.if-not-done.false)
-
-pub unreachable-requires : goal.unreachable-requires
-unreachable-requires c = false≢true (sym c.if-not-done.true ∙ c.in_ok-done.ensures.found.0 c.requires.can)
+pub returns-in_ok-serve_read-in-Read-clause-ready : goal.returns-in_ok-serve_read-in-Read-clause-ready
+returns-in_ok-serve_read-in-Read-clause-ready c = rw c.in-Read.is c.in_ok-serve_read-in-Read.ensures.ready

@@ -1,9 +1,10 @@
 use Rattle.std.proofs.Common.{refl, arith}
 use Rattle.ap_net.specs.declared.cell.Wire.{Wire}
 use Rattle.ap_net.specs.declared.cell.Wire.{Wire}
-use Rattle.ap_net.proofs.Laws.{IsNet-Makes, Makes-trans}
+use Rattle.ap_net.proofs.Laws.{IsNet-Makes}
 use Rattle.ap_stage.specs.Sources.{source_numbers}
-use Rattle.ap_stage.proofs.Lined.{cat_line, cat_wiring, found_no, found_some, ground_on, none_made, rows_on}
+use Rattle.ap_stage.proofs.Followed.{only_later}
+use Rattle.ap_stage.proofs.Lined.{cat_line, cat_wiring, found_no, found_some, ground_on, none_reads, rows_on}
 use Rattle.ap_stage.proofs.line.cat_net.Goals as goal
 
 pub operand_net-requires-2-clause-fresh : goal.operand_net-requires-2-clause-fresh
@@ -44,13 +45,15 @@ pub returns-clause-found : goal.returns-clause-found
 returns-clause-found c = (λ h. refl, λ h. (found_some _ c.in-Some.x c.in-Some.is c.in_ok-first.ensures.found, found_some _ c.in-Some-second.y c.in-Some-second.is c.in_ok-second.ensures.found))
 
 pub returns-in_default-clause-none : goal.returns-in_default-clause-none
-returns-in_default-clause-none c = none_made _ _ _ c.in_default.is c.in_ok-first.ensures.none
+returns-in_default-clause-none c = none_reads _ _ _ _ c.in_default.is c.in_ok-first.ensures.none
 
 pub returns-in_default-clause-found : goal.returns-in_default-clause-found
 returns-in_default-clause-found c = found_no Wire _ c.in_default.is c.in_ok-first.ensures.found (λ h. h.0)
 
 pub returns-in_default-second-clause-none : goal.returns-in_default-second-clause-none
-returns-in_default-second-clause-none c = Makes-trans _ _ _ (rw c.in-Some.is at c.in_ok-first.ensures.wiring).makes (none_made _ _ _ c.in_default-second.is c.in_ok-second.ensures.none)
+returns-in_default-second-clause-none c =
+    let first = rw c.in-Some.is at c.in_ok-first.ensures.wiring in
+    only_later (source_numbers c.args.ground.now c.args.row.now) _ _ _ first.yields.reads first.makes (none_reads _ _ _ _ c.in_default-second.is c.in_ok-second.ensures.none)
 
 pub returns-in_default-second-clause-found : goal.returns-in_default-second-clause-found
 returns-in_default-second-clause-found c = found_no Wire _ c.in_default-second.is c.in_ok-second.ensures.found (λ h. h.1)

@@ -1,6 +1,6 @@
 use Rattle.std.proofs.Common.{refl, arith}
 use Rattle.ap_net.specs.declared.cell.Wire.{Wire}
-use Rattle.ap_stage.proofs.Lined.{found_no, found_some, line_wiring, none_made, zext_line}
+use Rattle.ap_stage.proofs.Lined.{found_no, found_some, line_wiring, none_reads, zext_line}
 use Rattle.ap_stage.proofs.line.zext_net.Goals as goal
 
 pub zero_extended-requires-clause-a : goal.zero_extended-requires-clause-a
@@ -19,7 +19,7 @@ pub returns-clause-found : goal.returns-clause-found
 returns-clause-found c = (λ h. refl, λ h. found_some _ c.in-Some.x c.in-Some.is c.in_ok-found.ensures.found)
 
 pub returns-in_default-clause-none : goal.returns-in_default-clause-none
-returns-in_default-clause-none c = none_made _ _ _ c.in_default.is c.in_ok-found.ensures.none
+returns-in_default-clause-none c = none_reads _ _ _ _ c.in_default.is c.in_ok-found.ensures.none
 
 pub returns-in_default-clause-found : goal.returns-in_default-clause-found
 returns-in_default-clause-found c = found_no Wire _ c.in_default.is c.in_ok-found.ensures.found (λ h. h)

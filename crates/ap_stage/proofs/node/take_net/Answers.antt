@@ -2,6 +2,7 @@ use Rattle.std.proofs.Common.{None, Some, ◌∙◌}
 use Rattle.std.proofs.lemmas.Option.{slice_get_within}
 use Rattle.ap_stage.specs.Trees.{IsShallow}
 use Rattle.ap_stage.proofs.Filled.{row_filled, set_keeps, set_other, set_same}
+use Rattle.ap_stage.proofs.Followed.{from_later, from_set}
 use Rattle.ap_stage.proofs.Low.{sources_set}
 use Rattle.ap_stage.proofs.Swept.{keeps_trans, made_set}
 use Rattle.ap_stage.proofs.node.take_net.Goals as goal
@@ -26,3 +27,6 @@ returns-clause-others c = λ j ne none. c.in_ok-sweep.ensures.others j none ∙ 
 
 pub returns-clause-low : goal.returns-clause-low
 returns-clause-low c = c.in_ok-sweep.ensures.low 0 (rw c.put.ensures (sources_set (IsShallow c.args.out.now 0) c.args.ground.now c.args.row.now c.args.local c.args.net c.requires.low c.requires.net_low))
+
+pub returns-clause-from : goal.returns-clause-from
+returns-clause-from c = from_later _ _ _ _ _ _ (from_set c.args.out.now c.args.ground.now c.args.row.now c.args.local c.args.net) (rw c.put.ensures at c.in_ok-sweep.ensures.from)

@@ -4,9 +4,11 @@ use Rattle.std.proofs.lemmas.Option.{same_Some, slice_get-get_or, slice_get_with
 use Rattle.ap_net.proofs.Laws.{IsNet-Makes, Makes-refl, Makes-trans}
 use Rattle.ap_stage.specs.Courses.{GoesOn, HasResult, IsCourse, IsResultWide, IsUnserved}
 use Rattle.ap_stage.proofs.Filled.{above, below, set_cases, set_long, set_other}
+use Rattle.ap_stage.proofs.Coursed.{from_at}
+use Rattle.ap_stage.proofs.Followed.{from_later, from_same}
 use Rattle.ap_stage.proofs.Lined.{ground_on}
 use Rattle.ap_stage.proofs.Listed.{each_at, each_by_place}
-use Rattle.ap_stage.proofs.Served.{course_on, go_by_place}
+use Rattle.ap_stage.proofs.Users.{course_on, go_by_place}
 use Rattle.ap_stage.proofs.Shallow.{shallow_on}
 use Rattle.ap_stage.proofs.node.take_results.Goals as goal
 
@@ -17,6 +19,7 @@ loop-course-init c = record {
   done = λ k one other low p q. absurd (omega arith);
   has = λ k x low at. absurd (omega arith);
   rest = λ k low. refl;
+  from = from_same _ _;
   makes = Makes-refl _;
 }
 
@@ -38,13 +41,13 @@ pub take_result-requires-clause-unserved : goal.take_result-requires-clause-unse
 take_result-requires-clause-unserved c =
     let inside : c.loop-course.course-index < length c.loop-course.courses = omega arith in
     let at = slice_get-get_or c.loop-course.courses c.loop-course.course-index c.course-item.result inside in
-    each_at (IsUnserved c.args.unit) c.args.courses.now c.loop-course.course-index _ c.requires.unserved (sym (c.loop-course.invariant.rest c.loop-course.course-index (omega arith)) ∙ at)
+    each_at (IsUnserved c.args.port) c.args.courses.now c.loop-course.course-index _ c.requires.unserved (sym (c.loop-course.invariant.rest c.loop-course.course-index (omega arith)) ∙ at)
 
 pub take_result-requires-clause-wide : goal.take_result-requires-clause-wide
 take_result-requires-clause-wide c =
     let inside : c.loop-course.course-index < length c.loop-course.courses = omega arith in
     let at = slice_get-get_or c.loop-course.courses c.loop-course.course-index c.course-item.result inside in
-    each_at (IsResultWide c.args.y.width c.args.unit) c.args.courses.now c.loop-course.course-index _ c.requires.wide (sym (c.loop-course.invariant.rest c.loop-course.course-index (omega arith)) ∙ at)
+    each_at (IsResultWide c.args.y.width c.args.port) c.args.courses.now c.loop-course.course-index _ c.requires.wide (sym (c.loop-course.invariant.rest c.loop-course.course-index (omega arith)) ∙ at)
 
 pub take_result-requires-clause-low : goal.take_result-requires-clause-low
 take_result-requires-clause-low c = shallow_on _ _ 0 c.args.y.number c.loop-course.invariant.makes.adds.extends c.requires.low
@@ -56,7 +59,7 @@ loop-course-preserved c =
     let i = c.loop-course.course-index in
     let xs = c.loop-course.courses in
     let new = c.take_result.new.course in
-    let unit = c.args.unit in
+    let port = c.args.port in
     let inside : i < length xs = omega arith in
     let at = slice_get-get_or xs i c.course-item.result inside in
     record {
@@ -65,10 +68,11 @@ loop-course-preserved c =
       done = λ k one other low p q. ⊎_elim
           (λ same.
           let before : get_or xs i c.course-item.result ≡ one = same_Some _ one (sym at ∙ h.rest i (omega arith) ∙ ap (slice_get c.args.courses.now) (sym same.0) ∙ p) in
-          subst (GoesOn unit one) same.1 (subst (λ z. GoesOn unit z new) before y.goes_on))
+          subst (GoesOn port one) same.1 (subst (λ z. GoesOn port z new) before y.goes_on))
           (λ other_place. let ne = other_place.0 in h.done k one other (below i k low ne) p other_place.1) (set_cases xs i k new other inside q);
-      has = λ k x low there. ⊎_elim (λ same. subst (HasResult unit c.args.y) same.1 y.has) (λ other. h.has k x (below i k low other.0) other.1) (set_cases xs i k new x inside there);
+      has = λ k x low there. ⊎_elim (λ same. subst (HasResult port c.args.y) same.1 y.has) (λ other. h.has k x (below i k low other.0) other.1) (set_cases xs i k new x inside there);
       rest = λ k low. set_other xs i k new (λ e. above i k low e) ∙ h.rest k (omega arith);
+      from = from_later _ _ _ _ _ _ h.from (from_at c.args.ground.now xs i _ new c.args.y _ _ at y.from);
       makes = Makes-trans _ _ _ h.makes y.makes;
     }
 
@@ -78,14 +82,17 @@ returns-clause-courses c = each_by_place (IsCourse c.loop-course.out c.args.grou
 pub returns-clause-go_on : goal.returns-clause-go_on
 returns-clause-go_on c =
     let h = c.loop-course.invariant in
-    go_by_place c.args.unit c.args.courses.now c.loop-course.courses h.long (λ k one other p q.
+    go_by_place c.args.port c.args.courses.now c.loop-course.courses h.long (λ k one other p q.
     let inside = slice_get_within c.args.courses.now k one p in
     h.done k one other (omega arith) p q)
 
 pub returns-clause-has : goal.returns-clause-has
 returns-clause-has c =
     let h = c.loop-course.invariant in
-    each_by_place (HasResult c.args.unit c.args.y) c.loop-course.courses (λ k x at.
+    each_by_place (HasResult c.args.port c.args.y) c.loop-course.courses (λ k x at.
     let inside = slice_get_within c.loop-course.courses k x at in
     let long = h.long in
     h.has k x (omega arith) at)
+
+pub returns-clause-from : goal.returns-clause-from
+returns-clause-from c = let h = c.loop-course.invariant.from in record { reads = h.reads; results = h.results.1 }

@@ -1,5 +1,7 @@
 use Rattle.std.proofs.Common.{◌<◌, sym, subst, ◌∙◌}
 use Rattle.ap_net.proofs.Laws.{Makes-refl}
+use Rattle.ap_stage.specs.Sources.{source_numbers}
+use Rattle.ap_stage.proofs.Followed.{from_filled, from_reads, from_same}
 use Rattle.ap_stage.proofs.Filled.{fills_none, fills_one, had_net, had_none, row_filled}
 use Rattle.ap_stage.proofs.Lined.{found_none, found_some, none_of, rows_on}
 use Rattle.ap_stage.proofs.Low.{low_filled, low_on}
@@ -25,7 +27,7 @@ pub returns-then-is_some-clause-makes : goal.returns-then-is_some-clause-makes
 returns-then-is_some-clause-makes c = Makes-refl _
 
 pub returns-in_default-clause-row : goal.returns-in_default-clause-row
-returns-in_default-clause-row c = rows_on _ _ c.args.scope.now c.args.row.now (none_of _ c.in_default.is c.in_ok-found.ensures.none) c.requires.row
+returns-in_default-clause-row c = rows_on _ _ c.args.scope.now c.args.row.now (none_of _ c.in_default.is c.in_ok-found.ensures.none).makes c.requires.row
 
 pub returns-in_default-clause-fills : goal.returns-in_default-clause-fills
 returns-in_default-clause-fills c = fills_none _ c.args.ground.now c.args.scope.now c.args.row.now c.args.line (λ h. absurd (found_none _ c.in_default.is c.in_ok-found.ensures.found h))
@@ -34,7 +36,7 @@ pub returns-then-is_some-clause-low : goal.returns-then-is_some-clause-low
 returns-then-is_some-clause-low c = λ most each. each
 
 pub returns-in_default-clause-low : goal.returns-in_default-clause-low
-returns-in_default-clause-low c = low_on _ _ c.args.ground.now c.args.row.now (none_of _ c.in_default.is c.in_ok-found.ensures.none).adds.extends
+returns-in_default-clause-low c = low_on _ _ c.args.ground.now c.args.row.now (none_of _ c.in_default.is c.in_ok-found.ensures.none).makes.adds.extends
 
 pub returns-clause-low : goal.returns-clause-low
 returns-clause-low c =
@@ -42,7 +44,7 @@ returns-clause-low c =
     rw c.put.ensures (low_filled _ _ c.args.ground.now c.args.row.now c.args.line.local c.in-Some.net wiring.makes.adds.extends wiring.shallow)
 
 pub returns-in_default-clause-makes : goal.returns-in_default-clause-makes
-returns-in_default-clause-makes c = none_of _ c.in_default.is c.in_ok-found.ensures.none
+returns-in_default-clause-makes c = (none_of _ c.in_default.is c.in_ok-found.ensures.none).makes
 
 pub returns-clause-row : goal.returns-clause-row
 returns-clause-row c =
@@ -58,3 +60,12 @@ returns-clause-fills c =
 
 pub returns-clause-makes : goal.returns-clause-makes
 returns-clause-makes c = (rw c.in-Some.is at c.in_ok-found.ensures.wiring).makes
+
+pub returns-then-is_some-clause-from : goal.returns-then-is_some-clause-from
+returns-then-is_some-clause-from c = from_same (source_numbers c.args.ground.now c.args.row.now) _
+
+pub returns-in_default-clause-from : goal.returns-in_default-clause-from
+returns-in_default-clause-from c = from_reads (source_numbers c.args.ground.now c.args.row.now) _ _ (none_of _ c.in_default.is c.in_ok-found.ensures.none).reads
+
+pub returns-clause-from : goal.returns-clause-from
+returns-clause-from c = rw c.put.ensures (from_filled _ _ c.args.ground.now c.args.row.now c.args.line.local c.in-Some.net (rw c.in-Some.is at c.in_ok-found.ensures.wiring))

@@ -5,6 +5,7 @@ use Rattle.ap_desc.specs.declared.design.Arg.TheVariants as arg
 use Rattle.ap_net.proofs.Laws.{Makes-refl, Makes-trans}
 use Rattle.ap_stage.specs.declared.row.Line.{Line}
 use Rattle.ap_stage.specs.Rows.{IsLine}
+use Rattle.ap_stage.proofs.Followed.{from_later, from_same}
 use Rattle.ap_stage.proofs.Filled.{keeps_same}
 use Rattle.ap_stage.proofs.Lined.{ground_on}
 use Rattle.ap_stage.proofs.Listed.{each_at}
@@ -15,7 +16,7 @@ abbrev blank : Line
 blank = record { act = act.Compute 0 0 (arg.Local 0) (arg.Local 0); local = 0 }
 
 pub loop-line-init : goal.loop-line-init
-loop-line-init c = record { is_row = c.requires.row; made = c.requires.made; closed = λ k l low at. absurd (omega arith); keeps = keeps_same _; others = λ local none. refl; low = λ most each. each; makes = Makes-refl _ }
+loop-line-init c = record { is_row = c.requires.row; made = c.requires.made; closed = λ k l low at. absurd (omega arith); keeps = keeps_same _; others = λ local none. refl; low = λ most each. each; from = from_same _ _; makes = Makes-refl _ }
 
 pub fill-requires-clause-fresh : goal.fill-requires-clause-fresh
 fill-requires-clause-fresh c = c.loop-line.invariant.makes.fresh c.requires.fresh
@@ -41,6 +42,7 @@ loop-line-preserved c =
       keeps = keeps_trans _ _ _ h.keeps y.fills.keeps;
       others = λ local none. y.fills.others local (none c.loop-line.line-index _ at) ∙ h.others local none;
       low = λ most each. y.low most (h.low most each);
+      from = from_later _ _ _ _ _ _ h.from y.from;
       makes = Makes-trans _ _ _ h.makes y.makes;
     }
 

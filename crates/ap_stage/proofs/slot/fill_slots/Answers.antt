@@ -7,6 +7,7 @@ use Rattle.ap_stage.specs.Slots.{IsStored, local_bits}
 use Rattle.ap_stage.proofs.Filled.{row_filled}
 use Rattle.ap_stage.proofs.Lined.{rows_on}
 use Rattle.ap_stage.proofs.Listed.{each_at}
+use Rattle.ap_stage.proofs.Slotted.{around_all, around_more, around_none}
 use Rattle.ap_stage.proofs.Stored.{bits_are, stored_more}
 use Rattle.ap_stage.proofs.slot.fill_slots.Goals as goal
 
@@ -14,7 +15,7 @@ abbrev blank : Stored
 blank = record { local = 0; slot = record { number = 0; width = 0 } }
 
 pub loop-one-init : goal.loop-one-init
-loop-one-init c = record { is_row = c.requires.row; has = λ k s low at. absurd (omega arith); makes = Makes-refl _ }
+loop-one-init c = record { is_row = c.requires.row; has = λ k s low at. absurd (omega arith); slots = around_none c.args.stored.now _ _ c.requires.none; makes = Makes-refl _ }
 
 pub width_of-requires : goal.width_of-requires
 width_of-requires c = (each_at (IsStored c.args.out.now.nets c.args.scope.now) c.args.stored.now c.loop-one.one-index (get_or c.args.stored.now c.loop-one.one-index blank) c.requires.stored (slice_get-get_or c.args.stored.now c.loop-one.one-index blank (omega arith))).local
@@ -55,8 +56,12 @@ loop-one-preserved c =
     rw c.put.ensures (record {
       is_row = row_filled _ c.args.scope.now _ one.local c.in_ok-net.net inside carries.net carries.wide (rows_on _ _ c.args.scope.now _ y.wiring.makes h.is_row);
       has = stored_more _ _ c.args.scope.now c.args.stored.now _ c.loop-one.one-index one c.in_ok-net.net y.wiring.makes c.requires.once (slice_get-get_or c.args.stored.now c.loop-one.one-index blank (omega arith)) inside carries h.has;
+      slots = around_more c.args.stored.now c.loop-one.one-index one c.in_ok-net.net _ _ _ _ _ (slice_get-get_or c.args.stored.now c.loop-one.one-index blank (omega arith)) h.makes y.wiring h.slots;
       makes = Makes-trans _ _ _ h.makes y.wiring.makes;
     })
 
 pub returns-clause-stored : goal.returns-clause-stored
 returns-clause-stored c = λ k s at. let inside : k < length c.args.stored.now = slice_get_within c.args.stored.now k s at in c.loop-one.invariant.has k s (omega arith) at
+
+pub returns-clause-slots : goal.returns-clause-slots
+returns-clause-slots c = around_all c.args.stored.now c.loop-one.one-index _ _ _ _ (omega arith) c.loop-one.invariant.slots

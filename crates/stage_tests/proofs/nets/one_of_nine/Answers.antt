@@ -2,7 +2,7 @@ use Rattle.std.proofs.Common.{length, sym, ap, subst, ◌∙◌, arith}
 use Rattle.std.specs.Prelude.{codes}
 use Rattle.ap_net.specs.Draft.{CanFresh}
 use Rattle.ap_net.proofs.Laws.{Makes-trans}
-use Rattle.ap_stage.proofs.Served.{over_users}
+use Rattle.ap_stage.proofs.Users.{over_users}
 use Rattle.stage_tests.proofs.Alone.{fresh_blank, made_shown}
 use Rattle.stage_tests.proofs.nets.one_of_nine.Goals as goal
 

@@ -19,8 +19,8 @@ nine_courses-requires c =
       ground = c.word_ground-ground.ensures;
     }
 
-pub serve_unit-requires : goal.serve_unit-requires
-serve_unit-requires c =
+pub serve_quick-requires : goal.serve_quick-requires
+serve_quick-requires c =
     let word = c.in_ok-word.ensures in
     let all = c.in_ok-courses.ensures in
     let makes = Makes-trans _ _ _ word.wiring.makes all.makes in
@@ -28,24 +28,24 @@ serve_unit-requires c =
     record {
       top = makes.adds.extends.name ∙ ap (λ d. d.name) c.in_ok-out.ensures;
       fresh = makes.fresh (subst CanFresh (sym c.in_ok-out.ensures) (fresh_blank (codes "top")));
-      is_name = refl;
-      name = makes.names (codes "u_U") unit_is_other (rw c.in_ok-out.ensures (new_unit (codes "top")));
-      other = unit_is_other;
-      unit = c.in_ok-unit.ensures;
       ground = ground_there _ c.in_ok-word.word c.word_ground-ground.result has c.word_ground-ground.ensures;
       courses = rw c.deref_mut.ensures.value all.courses;
-      unserved = rw c.deref_mut.ensures.value all.unserved;
-      fit = rw c.deref_mut.ensures.value all.fit;
-      over = rw c.deref_mut.ensures.value (subst (GoesOver c.in_ok-select.select 0) (sym all.count) c.in_ok-select.ensures);
-      low = omega arith;
-      high = omega arith;
+      unit = record {
+        servable = rw c.deref_mut.ensures.value (record { over = subst (GoesOver c.in_ok-halves.field-0 0) (sym all.count) c.in_ok-halves.ensures; unserved = all.unserved });
+        ports = c.in_ok-unit.ensures;
+        is_name = rw c.in_ok-copy_of.ensures refl;
+        other = rw c.in_ok-copy_of.ensures unit_is_other;
+        new = rw c.in_ok-copy_of.ensures (makes.names (codes "u_U") unit_is_other (rw c.in_ok-out.ensures (new_unit (codes "top"))));
+        fit = rw c.deref_mut.ensures.value all.fit;
+      };
+      can = rw c.deref_mut.ensures.value all.can;
     }
 
 pub shown-requires : goal.shown-requires
 shown-requires c =
     let word = c.in_ok-word.ensures in
     let all = c.in_ok-courses.ensures in
-    let once = (c.in_ok-done.ensures.places c.if-not-done.false).places in
-    let h = placed_shown _ _ once.placed once.named (made_shown _ _ _ c.in_ok-out.ensures (Makes-trans _ _ _ word.wiring.makes all.makes)) once.places in
+    let once = c.in_ok-serve_quick.ensures.places.places in
+    let h = placed_shown _ _ once.placed (once.named ∙ c.in_ok-copy_of.ensures) (made_shown _ _ _ c.in_ok-out.ensures (Makes-trans _ _ _ word.wiring.makes all.makes)) once.places in
     let net = IsNet-Adds _ _ c.in_ok-word.word once.places.adds (IsNet-Adds _ _ c.in_ok-word.word all.makes.adds word.carries.net) in
     record { adds = h.adds; closes = h.closes; new = h.new; net = net; wide = word.carries.wide; low = omega arith; high = omega arith }

@@ -1,0 +1,11 @@
+pub mod Declared
+pub mod Driven
+pub mod FileNets
+pub mod FilePlaced
+pub mod StagesFound
+pub mod Joined
+pub mod LateMade
+pub mod FileBanked
+pub mod BorderGiven
+pub mod FilesGiven
+pub mod BankedGiven

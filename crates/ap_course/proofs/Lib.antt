@@ -1,0 +1,16 @@
+pub mod Numbered
+pub mod Lined
+pub mod Few
+pub mod Makers
+pub mod Whole
+pub mod Fits
+pub mod Asking
+pub mod FieldsIn
+pub mod Standing
+pub mod InOrder
+pub mod Started
+pub mod Coursing
+pub mod Gathering
+pub mod Ordered
+pub mod Choosing
+pub mod Fitting

@@ -1,0 +1,6 @@
+pub mod Lines
+pub mod Homes
+pub mod Instrs
+pub mod Laws
+pub mod Starts
+pub mod Choices

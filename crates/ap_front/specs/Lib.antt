@@ -1,0 +1,12 @@
+pub mod Homes
+pub mod Ready
+pub mod Coming
+pub mod PortNets
+pub mod NewNames
+pub mod PortNames
+pub mod Controlling
+pub mod Ports
+pub mod Driven
+pub mod Opened
+pub mod Fetching
+pub mod Shown

@@ -1,0 +1,82 @@
+-- What was handed in stays where the draft grows.
+use Rattle.std.proofs.Common.{◌≡◌, ℕ, ◌++◌, List, [], ◌∷◌, Option, Some, None, refl, subst, inr}
+use Rattle.std.specs.Prelude.{IfSome, slice_get}
+use Rattle.std.specs.List.{AllByRecursion as Each}
+use Rattle.ap_desc.specs.declared.design.Arg.{Arg}
+use Rattle.ap_net.specs.declared.cell.Wire.{Wire}
+use Rattle.ap_net.specs.Draft.{Draft}
+use Rattle.ap_net.specs.Making.{Makes}
+use Rattle.ap_net.proofs.Facts.{Carries-Makes}
+use Rattle.ap_net.proofs.Laws.{Reads-joined, Reads-refl}
+use Rattle.ap_ctl.specs.Lists.{EachPair}
+use Rattle.ap_ctl.proofs.Beside.{EachPair-weaker}
+use Rattle.ap_stage.specs.declared.node.Course.{Course}
+use Rattle.ap_stage.specs.declared.source.Ground.{Ground}
+use Rattle.ap_stage.specs.Courses.{IsCourse, courses_numbers}
+use Rattle.ap_stage.specs.Sources.{source_numbers}
+use Rattle.ap_stage.specs.Trees.{IsShallow}
+use Rattle.ap_stage.specs.Wiring.{IsWiring, ReadsOnly}
+use Rattle.ap_stage.proofs.Coursed.{among_at}
+use Rattle.ap_stage.proofs.Followed.{old_from}
+use Rattle.ap_stage.proofs.Listed.{each_both}
+use Rattle.ap_stage.proofs.Shallow.{shallow_on}
+use Rattle.ap_effect.specs.declared.line.PortLine.{PortLine}
+use Rattle.ap_effect.specs.declared.write.Writer.{Writer}
+use Rattle.ap_outcome.specs.Outcomes.{IsLineWriter, IsLowWriter, IsNetOf, IsWriterFor}
+
+pub net_of_on : (a b : Draft) (ground : Ground) (c : Course) (arg : Option Arg) (o : Option Wire) → Makes a b → IsNetOf a ground c arg o → IsNetOf b ground c arg o
+net_of_on a b ground c None None m h = tt
+net_of_on a b ground c None (Some w) m h = absurd h
+net_of_on a b ground c (Some x) None m h = absurd h
+net_of_on a b ground c (Some x) (Some w) m h = Carries-Makes m h
+
+writer_on : (a b : Draft) (ground : Ground) (c : Course) (line : PortLine) (w : Writer) → Makes a b → IsWriterFor a ground c line w → IsWriterFor b ground c line w
+writer_on a b ground c line w m h = record {
+  cond = h.cond;
+  guard = net_of_on a b ground c line.guard w.guard m h.guard;
+  index = net_of_on a b ground c line.index w.index m h.index;
+  value = Carries-Makes m h.value;
+}
+
+pub writers_on : (a b : Draft) (ground : Ground) (courses : List Course) (lines : List PortLine) (writers : List Writer) → Makes a b → EachPair (IsLineWriter a ground courses) lines writers → EachPair (IsLineWriter b ground courses) lines writers
+writers_on a b ground courses lines writers m h = EachPair-weaker (IsLineWriter a ground courses) (IsLineWriter b ground courses) (λ line w one. record { course = one.course; at = one.at; writer = writer_on a b ground one.course line w m one.writer }) lines writers h
+
+pub low_net_on : (a b : Draft) (o : Option Wire) → Makes a b → IfSome o (λ (i : Wire). IsShallow a 0 i.number) → IfSome o (λ (i : Wire). IsShallow b 0 i.number)
+low_net_on a b None m h = tt
+low_net_on a b (Some i) m h = shallow_on a b 0 i.number m.adds.extends h
+
+pub low_on : (a b : Draft) (writers : List Writer) → Makes a b → Each (IsLowWriter a) writers → Each (IsLowWriter b) writers
+low_on a b [] m h = tt
+low_on a b (w ∷ writers) m h = (record { index = low_net_on a b w.index m (h.0).index; value = shallow_on a b 0 w.value.number m.adds.extends (h.0).value }, low_on a b writers m h.1)
+
+pub low_push : (d : Draft) (writers : List Writer) (w : Writer) → Each (IsLowWriter d) writers → IsLowWriter d w → Each (IsLowWriter d) (writers ++ w ∷ [])
+low_push d writers w h one = each_both (IsLowWriter d) writers (w ∷ []) h (one, tt)
+
+-- no `? :` stands before the net of an operand
+pub wiring_low : (a b : Draft) (ground : Ground) (c : Course) (w : Wire) → IsCourse a ground c → IsWiring (source_numbers ground c.row.items) a b w → IsShallow b 0 w.number
+wiring_low a b ground c w h is = is.shallow 0 h.low
+
+pub wiring_only : (from : List ℕ) (a b : Draft) (w : Wire) → IsWiring from a b w → ReadsOnly from a b
+wiring_only from a b w h = record { reads = h.yields.reads; makes = h.makes }
+
+-- it reads the nets of its course, which are among those of all
+pub only_among : (ground : Ground) (courses : List Course) (i : ℕ) (c : Course) (a b : Draft) → slice_get courses i ≡ Some c → ReadsOnly (source_numbers ground c.row.items) a b → ReadsOnly (courses_numbers ground courses) a b
+only_among ground courses i c a b at h =
+    let from : List ℕ = courses_numbers ground courses in
+    let more : List ℕ = source_numbers ground c.row.items in
+    record {
+      reads = Reads-joined from more a a b (Reads-refl from a) h.reads (old_from from a a more (λ n there. among_at ground courses i c at n (inr there)));
+      makes = h.makes;
+    }
+
+-- a line without an index has a writer without one
+pub no_index : (d : Draft) (ground : Ground) (courses : List Course) (lines : List PortLine) (writers : List Writer) → EachPair (IsLineWriter d ground courses) lines writers → Each (λ (l : PortLine). l.index ≡ None) lines → Each (λ (w : Writer). w.index ≡ None) writers
+no_index d ground courses [] [] h none = tt
+no_index d ground courses [] (w ∷ writers) h none = absurd h
+no_index d ground courses (l ∷ lines) [] h none = absurd h
+no_index d ground courses (l ∷ lines) (w ∷ writers) h none =
+    (go w.index (subst (λ o. IsNetOf d ground (h.0).course o w.index) none.0 (h.0).writer.index), no_index d ground courses lines writers h.1 none.1)
+  where
+    go : (o : Option Wire) → IsNetOf d ground (h.0).course None o → o ≡ None
+    go None i = refl
+    go (Some x) i = absurd i

@@ -1,0 +1,7 @@
+//! Which of the words in a stage ask a unit that takes several cycles.
+#![tactic(auto)]
+
+pub mod ask;
+pub mod laws;
+
+pub use ap_bits::NoMemory;

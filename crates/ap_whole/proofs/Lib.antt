@@ -1,0 +1,6 @@
+pub mod Effects
+pub mod Handed
+pub mod Homes
+pub mod Leaving
+pub mod Matching
+pub mod Whole

@@ -1,0 +1,4 @@
+pub mod Homes
+pub mod Effects
+pub mod Handed
+pub mod Whole
