@@ -1,0 +1,5 @@
+pub mod Faults
+pub mod Kinds
+pub mod Runnable
+pub mod Inputs
+pub mod Laws
