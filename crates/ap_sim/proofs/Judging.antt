@@ -31,7 +31,7 @@ runnable_faultless text can BadPorts line fault = fault.1.3 can.1 (subst (λ net
 
 -- ports after those of the code memory are read in one way
 module _ (o p : Outside) (ports : List Port) (h : AreDue ports o) (g : AreDue ports p) where
-  rest : List Port
+  abbrev rest : List Port
   rest = ports_after o
 
   split : ports ≡ output (codes "iaddr") o.address ∷ input (codes "idata") o.word ∷ input (codes "mwait") 1 ∷ rest
@@ -39,7 +39,7 @@ module _ (o p : Outside) (ports : List Port) (h : AreDue ports o) (g : AreDue po
 
   read : IsRead rest o.inputs o.mems (mem_ports o.mems ++ tail_of o.groups) (tail_of o.groups)
   read = record {
-    inputs_split = refl;
+    inputs_split = append_assoc (input_ports o.inputs) (mem_ports o.mems) (tail_of o.groups);
     mems_split = refl;
     each_input = h.outside.inputs;
     each_mem = h.outside.mems;

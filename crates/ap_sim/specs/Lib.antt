@@ -3,3 +3,4 @@ pub mod Kinds
 pub mod Runnable
 pub mod Inputs
 pub mod Laws
+pub mod Rows

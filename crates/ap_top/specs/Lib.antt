@@ -17,5 +17,6 @@ pub mod Outputs
 pub mod Endings
 pub mod Troubles
 pub mod Generate
+pub mod Simulation
 pub mod Example
 pub mod Streaming
