@@ -4,3 +4,4 @@ pub mod Runnable
 pub mod Inputs
 pub mod Laws
 pub mod Rows
+pub mod RowLines

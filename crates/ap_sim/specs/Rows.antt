@@ -1,26 +1,19 @@
 -- The rows that the netlist of a text shows, when it is run on an image and a trace.
-use Rattle.std.specs.Prelude.{◌≡◌, ℕ, zero, suc, ◌+◌, ◌++◌, List, [], ◌∷◌, map, Option, None, Some}
+use Rattle.std.specs.Prelude.{◌≡◌, ℕ, zero, suc, ◌+◌, List, [], ◌∷◌}
+use Rattle.ap_eval.specs.Benches.{labels_by}
 use Rattle.ap_image.specs.ImageTexts.{image_of}
-use Rattle.ap_image.specs.RowTexts.{file_label, row_text}
+use Rattle.ap_image.specs.RowTexts.{row_text}
 use Rattle.ap_image.specs.TraceTexts.{trace_of}
 use Rattle.ap_image.specs.declared.image.Image.{Image}
-use Rattle.ap_image.specs.declared.shape.MemShape.{MemShape}
 use Rattle.ap_image.specs.declared.trace.Trace.{Trace}
 use Rattle.ap_net.specs.Flat.{Flat, opened}
 use Rattle.ap_net.specs.Modules.{ModuleText}
-use Rattle.ap_net.specs.Outside.{FilePort, Group, Outside, shape_of}
+use Rattle.ap_net.specs.Outside.{Outside, shape_of}
 use Rattle.ap_net.specs.Rows.{shown_row}
 use Rattle.ap_net.specs.Runs.{NetState, Runs}
 use Rattle.ap_text.specs.Lines.{lines_of}
+use Rattle.ap_vw.specs.NetLines.{text_of}
 use Rattle.ap_sim.specs.Runnable.{IsRunnable}
-
--- the labels of the groups and then of the memories
-abbrev pub group_label : List ℕ → Option FilePort → List ℕ
-group_label storage None = storage
-group_label storage (Some port) = file_label storage port.number
-
-abbrev pub labels_by : Outside → List (List ℕ)
-labels_by o = map (λ (g : Group). group_label g.storage g.port) o.groups ++ map (λ (m : MemShape). m.name) o.mems
 
 -- the line of the row that the solution of cycle j shows
 abbrev pub line_of : Outside → Flat → (ℕ → List ℕ) → ℕ → List ℕ
@@ -30,11 +23,6 @@ line_of o f valuations j = row_text (labels_by o) j (shown_row o f (valuations j
 abbrev pub lines_from : Outside → Flat → (ℕ → List ℕ) → ℕ → ℕ → List (List ℕ)
 lines_from o f valuations j zero = []
 lines_from o f valuations j (suc n) = line_of o f valuations j ∷ lines_from o f valuations (j + 1) n
-
--- lines, one after another
-abbrev pub text_of : List (List ℕ) → List ℕ
-text_of [] = []
-text_of (line ∷ lines) = line ++ text_of lines
 
 -- the lines of the rows of a run of so many cycles
 pub record AreLinesOf (o : Outside) (f : Flat) (image : Image) (trace : Trace) (cycles : ℕ) (lines : List (List ℕ)) : Type 0 where

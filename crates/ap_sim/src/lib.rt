@@ -4,6 +4,8 @@
 pub mod fault;
 pub mod laws;
 mod reading;
+pub mod rows;
 
 pub use fault::{RunFault, RunKind};
 pub use reading::read_netlist;
+pub use rows::Rows;

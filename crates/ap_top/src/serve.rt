@@ -32,6 +32,7 @@ fn run<D: Desk>(alloc: Global, words: &[String], shelf: &Shelf, desk: &mut D) ->
     match command_of(words) {
         None => Err(Stop::Refused(Refusal::Usage)),
         Some(Command::Gen) => generate(alloc, words[1].as_str(), words[2].as_str(), shelf, desk),
+        Some(Command::Sim) => Err(Stop::Refused(Refusal::Usage)),
         Some(Command::Asm) => assemble(
             alloc,
             words[1].as_str(),
