@@ -7,7 +7,7 @@ ghost use Rattle.ap_sim.specs.Rows.{AreLinesOf};
 ghost use Rattle.ap_sim.specs.RowLines.{IsNextLine, Makes, Shows, begun, count_left};
 
 use ap_bits::{Items, NoMemory};
-use ap_eval::Bench;
+use ap_eval::{Bench, benches_follow_runs};
 use ap_flat::Flat;
 use ap_image::{Image, Trace, TraceLine};
 use std::alloc::Global;
@@ -78,6 +78,7 @@ impl<'a> Rows<'a> {
             → Shows rows lines) }
     {
         flat.rules();
+        benches_follow_runs();
         let idle = idle(alloc, flat.shape().inputs())?;
         let bench = Bench::start(alloc, flat, image)?;
         Ok(Rows {
@@ -101,6 +102,7 @@ impl<'a> Rows<'a> {
         if self.next == self.cycles {
             return Ok(false);
         }
+        benches_follow_runs();
         let cycle = self.next;
         let inputs = line_at(self.trace, &self.idle, cycle);
         self.bench.step(inputs);

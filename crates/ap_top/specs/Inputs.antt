@@ -22,7 +22,7 @@ use Rattle.ap_top.specs.Calls.{Call}
 use Rattle.ap_top.specs.Commands.{Operand, IsCall, IsCommand, operands_of}
 use Rattle.ap_top.specs.Form.{IsFormDescription, HasJudgedFault}
 use Rattle.ap_top.specs.Programs.{HasLeastFaultAfter, IsFaultlessAfter}
-use Rattle.ap_top.specs.Simulation.{HasLeastFaultRunOn, IsFaultlessRunOn}
+use Rattle.ap_top.specs.RunOn.{HasLeastFaultRunOn, IsFaultlessRunOn}
 
 -- an input: what its text holds, and the file's name
 abbrev pub Source : Type 0

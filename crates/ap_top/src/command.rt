@@ -1,4 +1,4 @@
-ghost use Rattle.std.specs.Prelude.{◌≡◌, ◌↔◌, ◌+◌, ◌<◌, length, map, IsTrue, IfSome, IfNone};
+ghost use Rattle.std.specs.Prelude.{◌≡◌, ◌↔◌, ◌+◌, ◌<◌, ◌≤◌, length, map, unwrap_or, IsTrue, IfSome, IfNone};
 ghost use Rattle.std.specs.List.{AllByRecursion as Each, zip};
 ghost use Rattle.std.specs.String.{string_bytes};
 ghost use Rattle.ap_desk.specs.Files.{IsFileName};
@@ -155,7 +155,8 @@ fn is_file_name(word: &str) -> bool
 
 /// The number of cycles that a word names, if it names one within the limit.
 pub(crate) fn count_of(word: &str) -> Option<u64>
-    ensures { result ≡ count_in word.now }
+    ensures value { result ≡ count_in word.now }
+    ensures most { IfSome result (λ count. count ≤ 1000000) }
 {
     match number(word.as_bytes()) {
         Ok(count) => within_limit(count),
@@ -163,8 +164,20 @@ pub(crate) fn count_of(word: &str) -> Option<u64>
     }
 }
 
+/// The number of cycles that a word names, and 0 where it names none within the limit.
+pub(crate) fn cycles_of(word: &str) -> u64
+    ensures value { result ≡ unwrap_or (count_in word.now) 0 }
+    ensures most { result ≤ 1000000 }
+{
+    match count_of(word) {
+        Some(count) => count,
+        None => 0,
+    }
+}
+
 fn within_limit(count: u64) -> Option<u64>
-    ensures { result ≡ counted count }
+    ensures value { result ≡ counted count }
+    ensures most { IfSome result (λ count. count ≤ 1000000) }
 {
     if count <= CYCLE_LIMIT {
         Some(count)
