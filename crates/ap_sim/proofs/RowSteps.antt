@@ -1,5 +1,5 @@
 -- The rows of a run, one after another.
-use Rattle.std.proofs.Common.{◌≡◌, ℕ, zero, suc, ◌+◌, ◌-◌, ◌<◌, ◌≤◌, ◌++◌, Bool, true, false, List, [], ◌∷◌, Option, Some, None, refl, sym, ap, subst, ◌∙◌, arith}
+use Rattle.std.proofs.Common.{◌≡◌, ℕ, zero, suc, ◌+◌, ◌-◌, ◌<◌, ◌≤◌, ◌++◌, Bool, true, false, List, [], ◌∷◌, length, get_or, map, take, Option, Some, None, refl, sym, ap, subst, ◌∙◌, arith}
 use Rattle.std.specs.Prelude.{slice_get}
 use Rattle.ap_eval.specs.Benches.{BenchState, StandsIn, StartsInRuns, Steps, StepsInRuns, labels_by, started}
 use Rattle.ap_flat.specs.Flats.{FlatParts, IsFlattened}
@@ -16,15 +16,24 @@ use Rattle.ap_sim.specs.RowLines.{IsLeft, IsNextLine, IsNextRow, Makes, RowsLeft
 use Rattle.ap_sim.specs.Rows.{AreLinesOf, line_of, lines_from}
 
 -- the line of a cycle, where the trace has one, and where it has none
-pub line_there : (lines : List TraceLine) (inputs : List ℕ) (j : ℕ) (line : TraceLine) → slice_get lines j ≡ Some line → line_among lines inputs j ≡ line
-line_there [] inputs j line at = cc
-line_there (x ∷ lines) inputs zero line at = cc
-line_there (x ∷ lines) inputs (suc j) line at = line_there lines inputs j line at
+pub line_there : (lines : List TraceLine) (inputs : List ℕ) (j : ℕ) (line : TraceLine) → j < length lines → line ≡ get_or lines j line → line_among lines inputs j ≡ line
+line_there [] inputs j line lt at = absurd (omega arith)
+line_there (x ∷ lines) inputs zero line lt at = sym at
+line_there (x ∷ lines) inputs (suc j) line lt at = line_there lines inputs j line (omega arith) at
 
-pub line_idle : (lines : List TraceLine) (inputs : List ℕ) (j : ℕ) → slice_get lines j ≡ None → line_among lines inputs j ≡ idle inputs
-line_idle [] inputs j at = refl
-line_idle (x ∷ lines) inputs zero at = cc
-line_idle (x ∷ lines) inputs (suc j) at = line_idle lines inputs j at
+pub line_idle : (lines : List TraceLine) (inputs : List ℕ) (j : ℕ) → length lines ≤ j → line_among lines inputs j ≡ idle inputs
+line_idle [] inputs j le = refl
+line_idle (x ∷ lines) inputs zero le = absurd (omega arith)
+line_idle (x ∷ lines) inputs (suc j) le = line_idle lines inputs j (omega arith)
+
+-- one more 0
+abbrev pub no_value : ℕ → ℕ
+no_value width = 0
+
+pub zeros_more : (widths : List ℕ) (i : ℕ) → i < length widths → map no_value (take i widths) ++ 0 ∷ [] ≡ map no_value (take (suc i) widths)
+zeros_more [] i lt = absurd (omega arith)
+zeros_more (w ∷ widths) zero lt = refl
+zeros_more (w ∷ widths) (suc i) lt = ap (λ (l : List ℕ). 0 ∷ l) (zeros_more widths i (omega arith))
 
 -- before the first cycle all lines are left
 pub begun_shows : StartsInRuns → (flat : FlatParts) → IsFlattened flat → (image : Image) (trace : Trace) (cycles : ℕ) (lines : List (List ℕ)) → AreLinesOf flat.outside flat.net image trace cycles lines → Shows (begun flat image trace cycles) lines

@@ -4,7 +4,7 @@ ghost use Rattle.ap_image.specs.FitsShape as shapes;
 ghost use Rattle.ap_image.specs.FitsShape.{ImageFitsShape, LineFitsShape, TraceFitsShape};
 ghost use Rattle.ap_net.specs.Outside.{shape_of};
 ghost use Rattle.ap_sim.specs.Rows.{AreLinesOf};
-ghost use Rattle.ap_sim.specs.RowLines.{IsNextLine, Makes, Shows, begun, count_left};
+ghost use Rattle.ap_sim.specs.RowLines.{IsNextLine, IsNextRow, Makes, Shows, begun, count_left};
 
 use ap_bits::{Items, NoMemory};
 use ap_eval::{Bench, benches_follow_runs};
@@ -90,6 +90,19 @@ impl<'a> Rows<'a> {
         })
     }
 
+    /// Makes the next cycle and appends the line of its row.
+    fn make(&mut self, out: &mut Vec<u8>) -> Result<(), NoMemory>
+        requires { self.old.next < self.old.cycles }
+        ensures { OnOk result (IsNextRow self.old self.new out.old.items out.new.items) }
+    {
+        let cycle = self.next;
+        let inputs = line_at(self.trace, &self.idle, cycle);
+        self.bench.step(inputs);
+        self.next = cycle + 1;
+        self.bench.put_row(cycle, out)?;
+        Ok(())
+    }
+
     /// Makes the next cycle, appends the line of its row and answers true, or false exactly where all cycles were made. It takes
     /// no memory but that of `out`. `NoMemory` comes only where memory ran out; a part of the line may then stand in `out`.
     pub fn line(&mut self, out: &mut Vec<u8>) -> Result<bool, NoMemory>
@@ -103,11 +116,7 @@ impl<'a> Rows<'a> {
             return Ok(false);
         }
         benches_follow_runs();
-        let cycle = self.next;
-        let inputs = line_at(self.trace, &self.idle, cycle);
-        self.bench.step(inputs);
-        self.next = cycle + 1;
-        self.bench.put_row(cycle, out)?;
+        self.make(out)?;
         Ok(true)
     }
 }
