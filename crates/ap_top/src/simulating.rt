@@ -16,6 +16,7 @@ use ap_desk::desk::Desk;
 use ap_desk::pieces::read_all;
 use ap_flat::Flat;
 use ap_image::{Image, TEXT_LIMIT, Trace, read_image, read_trace};
+use ap_sim::laws::opened_netlists_run;
 use ap_sim::{Rows, read_netlist};
 use std::alloc::Global;
 
@@ -137,6 +138,8 @@ pub(crate) fn simulate<D: Desk>(
     let flat = read_flat(alloc, netlist, desk)?;
     let image = read_memories(alloc, image, &flat, desk)?;
     let trace = read_inputs(alloc, trace, &flat, desk)?;
+    flat.rules();
+    opened_netlists_run();
     let mut shown = Rows::new(alloc, &flat, image, &trace, cycles)?;
     write_rows(alloc, desk, rows, &mut shown)?;
     Ok(())
