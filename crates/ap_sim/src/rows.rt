@@ -33,7 +33,7 @@ impl<'a> Model for Rows<'a> {
     ghost view = { λ r. record { bench = r.bench; trace = r.trace.now; next = r.next; cycles = r.cycles } };
 
     ghost invariant = { λ r. IsLeft (record { bench = r.bench; trace = r.trace.now; next = r.next; cycles = r.cycles })
-      × HasIdle r.idle r.bench.flat.outside };
+        × HasIdle r.idle r.bench.flat.outside };
 }
 
 /// The inputs after the last line of a trace: all is 0.
