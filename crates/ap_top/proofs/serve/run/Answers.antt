@@ -39,3 +39,6 @@ pub returns-in-Some-Asm-clause-cause : goal.returns-in-Some-Asm-clause-cause
 returns-in-Some-Asm-clause-cause g c =
     let call = subst (λ k. IsCall k (map string_bytes c.args.words.now)) c.in-Some-Asm.field-0-is c.in-Some-Asm.ensures.found in
     asked_cause (call_of (cards_of (λ x. (goal.UnitKind-dyn g x).card x.1) c.args.shelf.now) c.args.words.now (g.D.Desk.files c.args.desk.now)) Asm _ _ _ c.assemble.result call (asm_inputs string_bytes _ _ _ _ _ call c.index-words-1-in-Some-Asm.is c.as_str-in-Some-Asm.ensures.value c.index-words-2-in-Some-Asm.is c.as_str-in-Some-Asm-2.ensures.value) c.assemble.ensures.cause
+
+pub returns-in-Some-Sim-clause-done : goal.returns-in-Some-Sim-clause-done
+returns-in-Some-Sim-clause-done g c = ?
