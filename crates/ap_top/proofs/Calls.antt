@@ -18,7 +18,7 @@ use Rattle.ap_top.specs.Simulation.{sim_sources, sim_targets}
 use Rattle.ap_top.specs.Troubles.{StopsOn, StopsAs}
 
 -- words begin with one command
-first_letter : Command → ℕ
+abbrev first_letter : Command → ℕ
 first_letter command = slice_index (name_of command) 0
 
 same_letter : (one other : Command) (words : List (List ℕ)) → IsCall one words → IsCall other words → first_letter one ≡ first_letter other
@@ -29,7 +29,6 @@ pub one_command : (one other : Command) (words : List (List ℕ)) → IsCall one
 one_command one other words p q = by one other (same_letter one other words p q)
   where
     by : (one other : Command) → first_letter one ≡ first_letter other → one ≡ other
-      unfolding first_letter
     by Gen Gen e = refl
     by Gen Asm e = (let letters : ◌≡◌ {A = ℕ} 103 97 = e in omega (arith, letters))
     by Gen Sim e = (let letters : ◌≡◌ {A = ℕ} 103 115 = e in omega (arith, letters))

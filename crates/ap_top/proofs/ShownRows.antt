@@ -1,8 +1,7 @@
 -- The rows of a netlist that are appended to a file as they are made.
-use Rattle.std.proofs.Common.{◌≡◌, ℕ, ◌+◌, ◌≤◌, ◌<◌, List, [], length, Bool, true, false, cond, Option, refl, arith}
-use Rattle.std.specs.Prelude.{if◌then◌else◌}
+use Rattle.std.proofs.Common.{◌≡◌, ℕ, ◌+◌, ◌≤◌, ◌<◌, List, [], length, Bool, true, false, Option, refl, arith}
 use Rattle.ap_desk.specs.Files.{Files, Gains, GainsFront, Goes, Stands}
-use Rattle.ap_sim.specs.RowLines.{IsNextLine, RowsLeft, Shows, count_left}
+use Rattle.ap_sim.specs.RowLines.{IsNextLine, RowsLeft, Shows}
 use Rattle.ap_vw.specs.NetLines.{text_of}
 use Rattle.ap_top.specs.Streaming.{Moves}
 use Rattle.ap_top.proofs.Streamed.{IsStreaming, streaming_done, streaming_failed, streaming_first, streaming_line, streaming_moved, streaming_stopped}
@@ -39,5 +38,5 @@ module _ (name : List ℕ) (start : Option Files) (before : RowsLeft) where
   showing_done now held rows s few there lines h = let p = s lines h in streaming_done name (text_of lines) start now held p.0 p.2 few there
 
 -- rows are made as long as there are some
-pub fewer_rows : (old new : RowsLeft) (next : Bool) → count_left new + (if next then 1 else 0) ≤ count_left old → count_left new + (if next then 1 else 0) < count_left old + 1
-fewer_rows old new next h = omega (arith, h)
+pub fewer_rows : (new more old : ℕ) → new + more ≤ old → new + more < old + 1
+fewer_rows new more old h = omega (arith, h)

@@ -36,7 +36,7 @@ use Rattle.ap_vr.specs.declared.fault.NetKind.TheVariants as nets
 use Rattle.ap_vw.specs.NetLines.{text_of}
 use Rattle.ap_top.specs.declared.command.Input.TheVariants as input
 use Rattle.ap_top.specs.declared.refusal.Refusal.{Refusal}
-use Rattle.ap_top.specs.declared.refusal.Refusal.TheVariants.{Usage, Description, Program, Netlist, Image, Trace}
+use Rattle.ap_top.specs.declared.refusal.Refusal.TheVariants as refused_as
 use Rattle.ap_top.specs.declared.refusal.Stop.{Stop}
 use Rattle.ap_top.specs.declared.refusal.Stop.TheVariants.{Refused, Broken}
 use Rattle.ap_top.specs.declared.refusal.Trouble.TheVariants.{Desk, Memory}
@@ -132,11 +132,11 @@ trace_at shape name bytes (Some files) trace reads h =
     (reads.there, subst (λ text. IsTraceIn shape text trace) (file_whole (trace_fault shape) files name bytes reads h.0) h)
 
 image_refused : (shape : Shape) (files : Files) (name bytes : List ℕ) (refusal : Refusal) → ReadsUpTo files name 67108864 bytes → IsImageRefused shape bytes refusal → IsImageRefused shape (content files name) refusal
-image_refused shape files name bytes (Image line kind) reads h = file_least (image_fault shape) files name bytes kind line reads h
+image_refused shape files name bytes (refused_as.Image line kind) reads h = file_least (image_fault shape) files name bytes kind line reads h
 image_refused shape files name bytes refusal reads h = absurd h
 
 trace_refused : (shape : Shape) (files : Files) (name bytes : List ℕ) (refusal : Refusal) → ReadsUpTo files name 67108864 bytes → IsTraceRefused shape bytes refusal → IsTraceRefused shape (content files name) refusal
-trace_refused shape files name bytes (Trace line kind) reads h = file_least (trace_fault shape) files name bytes kind line reads h
+trace_refused shape files name bytes (refused_as.Trace line kind) reads h = file_least (trace_fault shape) files name bytes kind line reads h
 trace_refused shape files name bytes refusal reads h = absurd h
 
 pub image_stops : (shape : Shape) (name bytes : List ℕ) (told : Option Files) (stop : Stop) → IfSome told (λ files. ReadsUpTo files name 67108864 bytes) → StopsIn (IsImageRefused shape) bytes stop → StopsReading (IsImageRefused shape) name told stop
@@ -192,14 +192,14 @@ module _ (cards : List Card) (v i t : List ℕ) (n : ℕ) (o : List ℕ) where
   stops refused name (Some files) told' (Refused refusal) e one h = (e, due_told cards sources files refusal h.0 (one files refusal refl h.1.0 h.1.1))
 
   netlist_due : (text : List ℕ) (refusal : Refusal) → IsNetlistRefused text refusal → IsRefused cards [] input.Netlist text refusal
-  netlist_due text (Netlist line kind) h = h
+  netlist_due text (refused_as.Netlist line kind) h = h
   netlist_due text refusal h = absurd h
 
   pub netlist_stop : (told told' : Option Files) (stop : Stop) → told' ≡ told → StopsReading IsNetlistRefused v told stop → StopsOn cards sources targets told told' stop
   netlist_stop told told' stop e h = stops IsNetlistRefused v told told' stop e (λ files refusal at there r. inl (there, netlist_due (content files v) refusal r)) h
 
   image_due : (files : Files) (flat : FlatParts) (refusal : Refusal) → IsFlatAt v (Some files) flat → IsImageRefused (shape_of flat.outside) (content files i) refusal → IsRefused cards (content files v ∷ []) input.Image (content files i) refusal
-  image_due files flat (Image line kind) h r = record { net = h.1.0; outside = flat.outside; runs = h.1.1; least = r }
+  image_due files flat (refused_as.Image line kind) h r = record { net = h.1.0; outside = flat.outside; runs = h.1.1; least = r }
   image_due files flat refusal h r = absurd r
 
   pub image_stop : (told told' : Option Files) (flat : FlatParts) (stop : Stop) → told' ≡ told → IsFlatAt v told flat → StopsReading (IsImageRefused (shape_of flat.outside)) i told stop → StopsOn cards sources targets told told' stop
@@ -208,7 +208,7 @@ module _ (cards : List Card) (v i t : List ℕ) (n : ℕ) (o : List ℕ) where
       inr (netlist_good files flat f, inl (there, image_due files flat refusal f r))) h
 
   trace_due : (files : Files) (flat : FlatParts) (refusal : Refusal) → IsFlatAt v (Some files) flat → IsTraceRefused (shape_of flat.outside) (content files t) refusal → IsRefused cards (content files v ∷ content files i ∷ []) input.Trace (content files t) refusal
-  trace_due files flat (Trace line kind) h r = record { net = h.1.0; outside = flat.outside; runs = h.1.1; least = r }
+  trace_due files flat (refused_as.Trace line kind) h r = record { net = h.1.0; outside = flat.outside; runs = h.1.1; least = r }
   trace_due files flat refusal h r = absurd r
 
   pub trace_stop : (told told' : Option Files) (flat : FlatParts) (image : Image) (stop : Stop) → told' ≡ told → IsFlatAt v told flat → IsImageAt (shape_of flat.outside) i told image → StopsReading (IsTraceRefused (shape_of flat.outside)) t told stop → StopsOn cards sources targets told told' stop
