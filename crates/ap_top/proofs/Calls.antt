@@ -30,13 +30,13 @@ one_command one other words p q = by one other (same_letter one other words p q)
   where
     by : (one other : Command) → first_letter one ≡ first_letter other → one ≡ other
     by Gen Gen e = refl
-    by Gen Asm e = (let letters : ◌≡◌ {A = ℕ} 103 97 = e in omega (arith, letters))
-    by Gen Sim e = (let letters : ◌≡◌ {A = ℕ} 103 115 = e in omega (arith, letters))
-    by Asm Gen e = (let letters : ◌≡◌ {A = ℕ} 97 103 = e in omega (arith, letters))
+    by Gen Asm e = absurd (let letters : ◌≡◌ {A = ℕ} 103 97 = e in let no : ⊥ = omega (arith, letters) in no)
+    by Gen Sim e = absurd (let letters : ◌≡◌ {A = ℕ} 103 115 = e in let no : ⊥ = omega (arith, letters) in no)
+    by Asm Gen e = absurd (let letters : ◌≡◌ {A = ℕ} 97 103 = e in let no : ⊥ = omega (arith, letters) in no)
     by Asm Asm e = refl
-    by Asm Sim e = (let letters : ◌≡◌ {A = ℕ} 97 115 = e in omega (arith, letters))
-    by Sim Gen e = (let letters : ◌≡◌ {A = ℕ} 115 103 = e in omega (arith, letters))
-    by Sim Asm e = (let letters : ◌≡◌ {A = ℕ} 115 97 = e in omega (arith, letters))
+    by Asm Sim e = absurd (let letters : ◌≡◌ {A = ℕ} 97 115 = e in let no : ⊥ = omega (arith, letters) in no)
+    by Sim Gen e = absurd (let letters : ◌≡◌ {A = ℕ} 115 103 = e in let no : ⊥ = omega (arith, letters) in no)
+    by Sim Asm e = absurd (let letters : ◌≡◌ {A = ℕ} 115 97 = e in let no : ⊥ = omega (arith, letters) in no)
     by Sim Sim e = refl
 
 -- with another number of words there is no call

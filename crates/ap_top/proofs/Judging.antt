@@ -138,7 +138,7 @@ module _ (cards : List Card) where
   -- a good command isn't refused,
   good_not_due : (words : List (List ℕ)) (files : Files) (refusal : Refusal) → AreInputsGood cards words files → IsRefusalDue cards words (Some files) refusal → ⊥
   good_not_due words files refusal good due = ⊎_elim
-      (λ usage. subst (IsRefusalDue cards words (Some files)) usage due (good.0, good.1))
+      (λ usage. let none : IsRefusalDue cards words (Some files) Usage = subst (IsRefusalDue cards words (Some files)) usage due in none (good.0, good.1))
       (λ other. let d = due_input words files refusal other due in good_command words files good.0 d.0 refusal good.1 d.1 good.2 d.2)
       (usage_or_not refusal)
 
@@ -150,10 +150,10 @@ module _ (cards : List Card) where
   same_status words files one other h g = ⊎_elim
       (λ is. ⊎_elim
       (λ both. ap refusal_status (is ∙ sym both))
-      (λ not. let d = due_input words files other not g in absurd (subst (IsRefusalDue cards words (Some files)) is h (d.0, d.1)))
+      (λ not. let d = due_input words files other not g in let none : IsRefusalDue cards words (Some files) Usage = subst (IsRefusalDue cards words (Some files)) is h in absurd (none (d.0, d.1)))
       (usage_or_not other))
       (λ not. let c = due_input words files one not h in ⊎_elim
-      (λ is. absurd (subst (IsRefusalDue cards words (Some files)) is g (c.0, c.1)))
+      (λ is. let none : IsRefusalDue cards words (Some files) Usage = subst (IsRefusalDue cards words (Some files)) is g in absurd (none (c.0, c.1)))
       (λ both. let d = due_input words files other both g in command_status words files one other c.0 d.0 c.1 d.1 c.2 d.2)
       (usage_or_not other))
       (usage_or_not one)

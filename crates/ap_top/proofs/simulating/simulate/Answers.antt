@@ -3,7 +3,7 @@ use Rattle.std.proofs.lemmas.Result.{err_from_is_err_and}
 use Rattle.ap_net.specs.Outside.{shape_of}
 use Rattle.ap_top.specs.Assembly.{StopsReading}
 use Rattle.ap_top.specs.Simulation.{IsImageAt, IsImageRefused, IsTraceAt, IsTraceRefused, sim_sources}
-use Rattle.ap_top.proofs.Causes.{kept, stop_cause, writing_gave_up}
+use Rattle.ap_top.proofs.Causes.{kept_done, kept_memory, quiet_done, stop_cause, writing_gave_up}
 use Rattle.ap_top.proofs.Simulation.{all_written, image_fails, image_stop, lines_exist, memory_stop, netlist_fails, netlist_stop, trace_fails, trace_stop, writing_stop}
 use Rattle.ap_top.proofs.simulating.simulate.Goals as goal
 
@@ -28,7 +28,7 @@ returns-in_err-image-clause-stopped g c = λ cards.
 pub returns-in_err-image-clause-cause : goal.returns-in_err-image-clause-cause
 returns-in_err-image-clause-cause g c = λ cards.
     let p = err_from_is_err_and c.from_residual-in_err-image.result c.from_residual-in_err-image.ensures.1 in
-    rw (p.1, p.2) (stop_cause _ _ _ _ _ c.in_err-image.field-0.0 (c.in_ok-flat.ensures.cause.quiet (λ e. cc))
+    rw (p.1, p.2) (stop_cause _ _ _ _ _ c.in_err-image.field-0.0 (quiet_done _ _ _ c.in_ok-flat.flat c.in_ok-flat.ensures.cause)
     (image_fails cards c.args.netlist.now c.args.image.now c.args.trace.now c.args.cycles c.args.rows.now (g.D.Desk.files c.args.desk.now) _ c.in_ok-flat.flat _ _ c.read_flat.ensures.same c.in_ok-flat.ensures.flat) c.in_err-image.ensures.cause)
 
 pub returns-in_err-trace-clause-stopped : goal.returns-in_err-trace-clause-stopped
@@ -47,7 +47,7 @@ returns-in_err-trace-clause-cause g c = λ cards.
     let shape = shape_of c.in_ok-flat.flat.outside in
     let same = c.read_flat.ensures.same in
     let both = c.read_memories.ensures.same ∙ same in
-    rw (p.1, p.2) (stop_cause _ _ _ _ _ c.in_err-trace.field-0.0 (c.in_ok-image.ensures.cause.quiet (λ e. cc) ∙ c.in_ok-flat.ensures.cause.quiet (λ e. cc))
+    rw (p.1, p.2) (stop_cause _ _ _ _ _ c.in_err-trace.field-0.0 (quiet_done _ _ _ c.in_ok-image.image c.in_ok-image.ensures.cause ∙ quiet_done _ _ _ c.in_ok-flat.flat c.in_ok-flat.ensures.cause)
     (trace_fails cards c.args.netlist.now c.args.image.now c.args.trace.now c.args.cycles c.args.rows.now (g.D.Desk.files c.args.desk.now) _ c.in_ok-flat.flat c.in_ok-image.image _ _ both c.in_ok-flat.ensures.flat
     (subst (λ t. IsImageAt shape c.args.image.now t c.in_ok-image.image) same c.in_ok-image.ensures.image)) c.in_err-trace.ensures.cause)
 
@@ -59,7 +59,7 @@ returns-in_err-shown-clause-stopped g c = λ cards.
 pub returns-in_err-shown-clause-cause : goal.returns-in_err-shown-clause-cause
 returns-in_err-shown-clause-cause g c = λ cards.
     let p = err_from_is_err_and c.from_residual-in_err-shown.result c.from_residual-in_err-shown.ensures.1 in
-    rw (p.1, p.2) (kept _ _ _ _ _ (c.in_ok-trace.ensures.cause.quiet (λ e. cc) ∙ c.in_ok-image.ensures.cause.quiet (λ e. cc) ∙ c.in_ok-flat.ensures.cause.quiet (λ e. cc)) (λ e. cc))
+    rw (p.1, p.2) (kept_memory _ _ _ (quiet_done _ _ _ c.in_ok-trace.trace c.in_ok-trace.ensures.cause ∙ quiet_done _ _ _ c.in_ok-image.image c.in_ok-image.ensures.cause ∙ quiet_done _ _ _ c.in_ok-flat.flat c.in_ok-flat.ensures.cause))
 
 pub returns-in_err-write_rows-clause-stopped : goal.returns-in_err-write_rows-clause-stopped
 returns-in_err-write_rows-clause-stopped g c = λ cards.
@@ -82,7 +82,7 @@ pub returns-in_err-write_rows-clause-cause : goal.returns-in_err-write_rows-clau
 returns-in_err-write_rows-clause-cause g c = λ cards.
     let p = err_from_is_err_and c.from_residual-in_err-write_rows.result c.from_residual-in_err-write_rows.ensures.1 in
     rw (p.1, p.2) (writing_gave_up cards (sim_sources c.args.netlist.now c.args.image.now c.args.trace.now) (g.D.Desk.files c.args.desk.now) _ _ _ c.in_err-write_rows.field-0.0
-    (c.in_ok-trace.ensures.cause.quiet (λ e. cc) ∙ c.in_ok-image.ensures.cause.quiet (λ e. cc) ∙ c.in_ok-flat.ensures.cause.quiet (λ e. cc)) c.in_err-write_rows.ensures.cause c.in_err-write_rows.ensures.not_missing)
+    (quiet_done _ _ _ c.in_ok-trace.trace c.in_ok-trace.ensures.cause ∙ quiet_done _ _ _ c.in_ok-image.image c.in_ok-image.ensures.cause ∙ quiet_done _ _ _ c.in_ok-flat.flat c.in_ok-flat.ensures.cause) c.in_err-write_rows.ensures.cause c.in_err-write_rows.ensures.not_missing)
 
 pub returns-clause-done : goal.returns-clause-done
 returns-clause-done g c = λ cards.
@@ -102,5 +102,5 @@ returns-clause-done g c = λ cards.
 
 pub returns-clause-cause : goal.returns-clause-cause
 returns-clause-cause g c = λ cards.
-    let e = c.in_ok-trace.ensures.cause.quiet (λ h. cc) ∙ c.in_ok-image.ensures.cause.quiet (λ h. cc) ∙ c.in_ok-flat.ensures.cause.quiet (λ h. cc) in
-    kept _ _ _ _ _ (c.in_ok-write_rows.ensures.cause ∙ e) (λ h. cc)
+    let e = quiet_done _ _ _ c.in_ok-trace.trace c.in_ok-trace.ensures.cause ∙ quiet_done _ _ _ c.in_ok-image.image c.in_ok-image.ensures.cause ∙ quiet_done _ _ _ c.in_ok-flat.flat c.in_ok-flat.ensures.cause in
+    kept_done _ _ _ _ (c.in_ok-write_rows.ensures.cause ∙ e)
