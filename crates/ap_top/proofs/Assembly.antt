@@ -26,7 +26,7 @@ use Rattle.ap_program.specs.declared.fault.AsmKind.TheVariants as kinds
 use Rattle.ap_top.specs.declared.command.Input.TheVariants as input
 use Rattle.ap_top.specs.declared.form.Judged.TheVariants as judged
 use Rattle.ap_top.specs.declared.refusal.Refusal.{Refusal}
-use Rattle.ap_top.specs.declared.refusal.Refusal.TheVariants.{Usage, Description, Program}
+use Rattle.ap_top.specs.declared.refusal.Refusal.TheVariants.{Usage, Description, Program, Netlist, Image, Trace}
 use Rattle.ap_top.specs.declared.refusal.Stop.{Stop}
 use Rattle.ap_top.specs.declared.refusal.Stop.TheVariants.{Refused, Broken}
 use Rattle.ap_top.specs.Assembly.{BecomeBoth, BeginBoth, FailsAt, IsDesignAt, IsProgramAt, IsProgramRefused, StopsReading, asm_sources, asm_targets}
@@ -120,15 +120,21 @@ module _ (cards : List Card) where
 
   -- The two inputs.
 
-  due_untold : (sources : List Source) (refusal : Refusal) → refusal ≢ Usage → IsDueOf cards sources None refusal
+  pub due_untold : (sources : List Source) (refusal : Refusal) → refusal ≢ Usage → IsDueOf cards sources None refusal
   due_untold sources Usage other = absurd (other refl)
   due_untold sources (Description fault) other = tt
   due_untold sources (Program line kind) other = tt
+  due_untold sources (Netlist line kind) other = tt
+  due_untold sources (Image line kind) other = tt
+  due_untold sources (Trace line kind) other = tt
 
-  due_told : (sources : List Source) (files : Files) (refusal : Refusal) → refusal ≢ Usage → RefusesOne cards files [] sources refusal → IsDueOf cards sources (Some files) refusal
+  pub due_told : (sources : List Source) (files : Files) (refusal : Refusal) → refusal ≢ Usage → RefusesOne cards files [] sources refusal → IsDueOf cards sources (Some files) refusal
   due_told sources files Usage other h = absurd (other refl)
   due_told sources files (Description fault) other h = h
   due_told sources files (Program line kind) other h = h
+  due_told sources files (Netlist line kind) other h = h
+  due_told sources files (Image line kind) other h = h
+  due_told sources files (Trace line kind) other h = h
 
   good_first : (files : Files) (d : List ℕ) (design : Design) → IsThere files d → IsDesignOf cards (content files d) design → IsGoodInput cards files [] (input.Processor, d)
   good_first files d design there h = record { there = there; faultless = h.accepted }

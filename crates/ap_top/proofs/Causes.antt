@@ -1,5 +1,5 @@
 -- What the desk's counts say of a part of a call, by the answers of the desk's calls in it.
-use Rattle.std.proofs.Common.{◌≡◌, ℕ, ◌≤◌, List, [], Option, Some, None, Result, Err, refl, sym, ap, subst, ◌∙◌, arith, inl, inr, ⊎_elim}
+use Rattle.std.proofs.Common.{◌≡◌, ℕ, ◌≤◌, List, [], Option, Some, None, Result, Ok, Err, refl, sym, ap, subst, ◌∙◌, arith, inl, inr, ⊎_elim}
 use Rattle.std.specs.Prelude.{IfSome}
 use Rattle.std.specs.FinMap.{get}
 use Rattle.ap_bits.specs.declared.card.Card.{Card}
@@ -31,6 +31,16 @@ kept fault cause before after result e other =
     let faults : after.faults ≡ before.faults = ap (λ (c : Counts). c.faults) e in
     let absent : after.absent ≡ before.absent = ap (λ (c : Counts). c.absent) e in
     record { faults_stay = omega arith; absent_stays = omega arith; desk = λ is. absurd (other is); quiet = λ _. e }
+
+-- nor did one in a part that was done, nor where memory ran out
+pub quiet_done : {T : Type 0} (cause : Counts → Counts → Type 0) (before after : Counts) (value : T) → IsCaused {T = T} desk_stop cause before after (Ok value) → after ≡ before
+quiet_done cause before after value h = h.quiet (λ e. cc)
+
+pub kept_done : {T : Type 0} (cause : Counts → Counts → Type 0) (before after : Counts) (value : T) → after ≡ before → IsCaused {T = T} desk_stop cause before after (Ok value)
+kept_done cause before after value e = kept desk_stop cause before after (Ok value) e (λ e. cc)
+
+pub kept_memory : {T : Type 0} (cause : Counts → Counts → Type 0) (before after : Counts) → after ≡ before → IsCaused {T = T} desk_stop cause before after (Err (Broken Memory))
+kept_memory cause before after e = kept desk_stop cause before after (Err (Broken Memory)) e (λ e. cc)
 
 lacks : (cards : List Card) (told : Option Files) (name : List ℕ) → IfSome told (λ files. get files name ≡ None) → IfSome told (λ files. LacksOne cards files [] (gen_sources name))
 lacks cards None name none = tt

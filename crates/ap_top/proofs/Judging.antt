@@ -1,6 +1,6 @@
 -- A description that is good isn't refused, and what is judged of the bytes that were read is so of the file.
-use Rattle.std.proofs.Common.{◌≡◌, ℕ, ◌<◌, List, [], ◌∷◌, ◌++◌, length, take, Option, Some, None, refl, sym, subst, ◌∙◌, arith, inl, inr, ⊎_elim, append_assoc}
-use Rattle.std.specs.Prelude.{◌⊎◌, IfSome}
+use Rattle.std.proofs.Common.{◌≡◌, ℕ, ◌<◌, List, [], ◌∷◌, ◌++◌, length, take, Option, Some, None, refl, sym, ap, subst, ◌∙◌, arith, inl, inr, ⊎_elim, append_assoc}
+use Rattle.std.specs.Prelude.{◌≢◌, ◌⊎◌, IfSome}
 use Rattle.std.proofs.lemmas.Bool.{cases_lt}
 use Rattle.ap_bits.specs.declared.card.Card.{Card}
 use Rattle.ap_text.specs.Lines.{TextLine, lines_of}
@@ -19,7 +19,7 @@ use Rattle.ap_top.specs.declared.form.Judged.TheVariants as judged
 use Rattle.ap_top.specs.declared.form.ReadFault.{ReadFault}
 use Rattle.ap_top.specs.declared.form.ReadFault.TheVariants as reading
 use Rattle.ap_top.specs.declared.refusal.Refusal.{Refusal}
-use Rattle.ap_top.specs.declared.refusal.Refusal.TheVariants.{Usage, Description, Program}
+use Rattle.ap_top.specs.declared.refusal.Refusal.TheVariants.{Usage, Description, Program, Netlist, Image, Trace}
 use Rattle.ap_top.specs.Additions.{Operation, IsAddition}
 use Rattle.ap_top.specs.Calls.{Call}
 use Rattle.ap_top.specs.Commands.{IsCall}
@@ -34,6 +34,13 @@ use Rattle.ap_top.specs.Refusals.{IsOrMemory, refusal_status, stop_of}
 use Rattle.ap_top.specs.Troubles.{StopsOn}
 use Rattle.ap_top.proofs.Calls.{one_command}
 use Rattle.ap_top.proofs.Designs.{program_not_refused}
+use Rattle.ap_image.specs.ImageTexts.{image_fault}
+use Rattle.ap_image.specs.Shapes.{Shape}
+use Rattle.ap_image.specs.TextFaults.{Judge}
+use Rattle.ap_image.specs.TraceTexts.{trace_fault}
+use Rattle.ap_image.specs.declared.fault.TextKind.{TextKind}
+use Rattle.ap_sim.proofs.Judging.{faultless_taken, runnable_faultless}
+use Rattle.ap_top.specs.RunOn.{HasLeastFaultRunOn, IsFaultlessRunOn}
 use Rattle.ap_top.proofs.Matching.{lengths_of}
 use Rattle.ap_top.proofs.TextFaults.{form_alone, form_first}
 
@@ -56,10 +63,18 @@ module _ (cards : List Card) where
   good_not_refused text form (judged.Refused refusal) good fault = good.faultless refusal.kind refusal.line fault.holds.holds
   good_not_refused text form (judged.NotBuilt line) good fault = built (lines_of text) form line good.first.lines good.first.ranges good.unit fault.1
 
+  -- nor is what a netlist is run on
+  run_not_refused : (judge : Shape → Judge) (before : List (List ℕ)) (text : List ℕ) (line : ℕ) (kind : TextKind) → IsFaultlessRunOn judge before text → HasLeastFaultRunOn judge before text line kind → ⊥
+  run_not_refused judge [] text line kind good refused = good
+  run_not_refused judge (netlist ∷ others) text line kind good refused = faultless_taken judge netlist text good kind line refused
+
   input_not_refused : (before : List (List ℕ)) (kind : Input) (text : List ℕ) (refusal : Refusal) → inputs.IsFaultless cards before kind text → IsRefused cards before kind text refusal → ⊥
   input_not_refused before input.Description text (Description judged) good refused = good_not_refused text good.0 judged good.1 refused
   input_not_refused before input.Processor text (Description (judged.Refused least)) good refused = good least.kind least.line refused.holds.holds
   input_not_refused before input.Program text (Program line kind) good refused = program_not_refused cards before text line kind good refused
+  input_not_refused before input.Netlist text (Netlist line kind) good refused = runnable_faultless text good kind line refused
+  input_not_refused before input.Image text (Image line kind) good refused = run_not_refused image_fault before text line kind good refused
+  input_not_refused before input.Trace text (Trace line kind) good refused = run_not_refused trace_fault before text line kind good refused
   input_not_refused before kind text refusal good refused = refused
 
   -- an input is refused with one status
@@ -67,11 +82,17 @@ module _ (cards : List Card) where
   status_of input.Description = 2
   status_of input.Processor = 2
   status_of input.Program = 3
+  status_of input.Netlist = 4
+  status_of input.Image = 5
+  status_of input.Trace = 5
 
   refused_status : (before : List (List ℕ)) (kind : Input) (text : List ℕ) (refusal : Refusal) → IsRefused cards before kind text refusal → refusal_status refusal ≡ status_of kind
   refused_status before input.Description text (Description judged) refused = refl
   refused_status before input.Processor text (Description (judged.Refused least)) refused = refl
   refused_status before input.Program text (Program line kind) refused = refl
+  refused_status before input.Netlist text (Netlist line kind) refused = refl
+  refused_status before input.Image text (Image line kind) refused = refl
+  refused_status before input.Trace text (Trace line kind) refused = refl
   refused_status before kind text refusal refused = absurd refused
 
   -- nor are inputs that are all good
@@ -97,26 +118,45 @@ module _ (cards : List Card) where
   good_command : (words : List (List ℕ)) (files : Files) (command other : Command) (refusal : Refusal) → IsCall command words → IsCall other words → AreGood cards files [] (inputs_of command words) → RefusesOne cards files [] (inputs_of other words) refusal → ⊥
   good_command words files command other refusal is is_other good refused = none_refused files [] (inputs_of command words) refusal good (refused_as words files command other refusal is is_other refused)
 
+  -- a refusal is that of the words, or one of an input
+  usage_or_not : (refusal : Refusal) → (refusal ≡ Usage) ⊎ (refusal ≢ Usage)
+  usage_or_not Usage = inl refl
+  usage_or_not (Description judged) = inr (λ e. cc)
+  usage_or_not (Program line kind) = inr (λ e. cc)
+  usage_or_not (Netlist line kind) = inr (λ e. cc)
+  usage_or_not (Image line kind) = inr (λ e. cc)
+  usage_or_not (Trace line kind) = inr (λ e. cc)
+
+  due_input : (words : List (List ℕ)) (files : Files) (refusal : Refusal) → refusal ≢ Usage → IsRefusalDue cards words (Some files) refusal → (command : Command) × IsCall command words × RefusesOne cards files [] (inputs_of command words) refusal
+  due_input words files Usage other due = absurd (other refl)
+  due_input words files (Description judged) other due = due
+  due_input words files (Program line kind) other due = due
+  due_input words files (Netlist line kind) other due = due
+  due_input words files (Image line kind) other due = due
+  due_input words files (Trace line kind) other due = due
+
   -- a good command isn't refused,
   good_not_due : (words : List (List ℕ)) (files : Files) (refusal : Refusal) → AreInputsGood cards words files → IsRefusalDue cards words (Some files) refusal → ⊥
-  good_not_due words files Usage good due = due (good.0, good.1)
-  good_not_due words files (Description judged) good due = good_command words files good.0 due.0 (Description judged) good.1 due.1 good.2 due.2
-  good_not_due words files (Program line kind) good due = good_command words files good.0 due.0 (Program line kind) good.1 due.1 good.2 due.2
+  good_not_due words files refusal good due = ⊎_elim
+      (λ usage. let none : IsRefusalDue cards words (Some files) Usage = subst (IsRefusalDue cards words (Some files)) usage due in none (good.0, good.1))
+      (λ other. let d = due_input words files refusal other due in good_command words files good.0 d.0 refusal good.1 d.1 good.2 d.2)
+      (usage_or_not refusal)
 
   command_status : (words : List (List ℕ)) (files : Files) (one other : Refusal) (command second : Command) → IsCall command words → IsCall second words → RefusesOne cards files [] (inputs_of command words) one → RefusesOne cards files [] (inputs_of second words) other → refusal_status one ≡ refusal_status other
   command_status words files one other command second is is_other h g = one_status files [] (inputs_of command words) one other h (refused_as words files command second other is is_other g)
 
   -- and a command that is refused has one refusal's status
   same_status : (words : List (List ℕ)) (files : Files) (one other : Refusal) → IsRefusalDue cards words (Some files) one → IsRefusalDue cards words (Some files) other → refusal_status one ≡ refusal_status other
-  same_status words files Usage Usage h g = refl
-  same_status words files Usage (Description judged) h g = absurd (h (g.0, g.1))
-  same_status words files Usage (Program line kind) h g = absurd (h (g.0, g.1))
-  same_status words files (Description judged) Usage h g = absurd (g (h.0, h.1))
-  same_status words files (Program line kind) Usage h g = absurd (g (h.0, h.1))
-  same_status words files (Description judged) (Description other) h g = command_status words files (Description judged) (Description other) h.0 g.0 h.1 g.1 h.2 g.2
-  same_status words files (Description judged) (Program line kind) h g = command_status words files (Description judged) (Program line kind) h.0 g.0 h.1 g.1 h.2 g.2
-  same_status words files (Program line kind) (Description judged) h g = command_status words files (Program line kind) (Description judged) h.0 g.0 h.1 g.1 h.2 g.2
-  same_status words files (Program line kind) (Program other more) h g = command_status words files (Program line kind) (Program other more) h.0 g.0 h.1 g.1 h.2 g.2
+  same_status words files one other h g = ⊎_elim
+      (λ is. ⊎_elim
+      (λ both. ap refusal_status (is ∙ sym both))
+      (λ not. let d = due_input words files other not g in let none : IsRefusalDue cards words (Some files) Usage = subst (IsRefusalDue cards words (Some files)) is h in absurd (none (d.0, d.1)))
+      (usage_or_not other))
+      (λ not. let c = due_input words files one not h in ⊎_elim
+      (λ is. let none : IsRefusalDue cards words (Some files) Usage = subst (IsRefusalDue cards words (Some files)) is g in absurd (none (c.0, c.1)))
+      (λ both. let d = due_input words files other both g in command_status words files one other c.0 d.0 c.1 d.1 c.2 d.2)
+      (usage_or_not other))
+      (usage_or_not one)
 
   done_good : (words : List (List ℕ)) (old new : Files) → IsDone cards words old new → AreInputsGood cards words old
   done_good words old new h = (h.0, h.1, h.2.0)

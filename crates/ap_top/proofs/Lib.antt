@@ -16,3 +16,5 @@ pub mod Additions
 pub mod Streamed
 pub mod Assembly
 pub mod Designs
+pub mod Simulation
+pub mod ShownRows

@@ -19,7 +19,7 @@ use Rattle.ap_top.specs.declared.refusal.Refusal.TheVariants.{Program, Usage}
 use Rattle.ap_top.specs.declared.refusal.Stop.{Stop}
 use Rattle.ap_top.specs.declared.refusal.Stop.TheVariants.{Refused, Broken}
 use Rattle.ap_top.specs.Inputs.{IsThere, Source}
-use Rattle.ap_top.specs.Outputs.{Target}
+use Rattle.ap_top.specs.Outputs.{Target, without_cycles}
 use Rattle.ap_top.specs.Programs.{IsDesignOf}
 
 -- the description and the program are read from the files of these names
@@ -28,7 +28,7 @@ asm_sources description program = (input.Processor, description) ∷ (input.Prog
 
 -- the image and the listing are written to the files of these names
 abbrev pub asm_targets : List ℕ → List ℕ → List Target
-asm_targets image listing = (output.Image, image) ∷ (output.Listing, listing) ∷ []
+asm_targets image listing = (without_cycles output.Image, image) ∷ (without_cycles output.Listing, listing) ∷ []
 
 -- where the desk tells, the file is there, and its description means the design
 abbrev pub IsDesignAt : List Card → List ℕ → Option Files → Design → Type 0

@@ -3,7 +3,7 @@ use Rattle.std.specs.Prelude.{ℕ, List, [], ◌∷◌}
 use Rattle.ap_top.specs.declared.command.Input.TheVariants.{Description}
 use Rattle.ap_top.specs.declared.command.Output.TheVariants.{Verilog}
 use Rattle.ap_top.specs.Inputs.{Source}
-use Rattle.ap_top.specs.Outputs.{Target}
+use Rattle.ap_top.specs.Outputs.{Target, without_cycles}
 
 -- the description is read from the file of this name
 abbrev pub gen_sources : List ℕ → List Source
@@ -11,4 +11,4 @@ gen_sources description = (Description, description) ∷ []
 
 -- the processor is written to the file of this name
 abbrev pub gen_targets : List ℕ → List Target
-gen_targets verilog = (Verilog, verilog) ∷ []
+gen_targets verilog = (without_cycles Verilog, verilog) ∷ []

@@ -7,6 +7,9 @@ use Rattle.ap_desc.specs.Meaning.{IsAccepted, IsLeastFault}
 use Rattle.ap_desk.specs.Files.{Files, content}
 use Rattle.ap_desk.specs.declared.counts.Counts.{Counts}
 use Rattle.ap_desk.specs.Causes.{Rose}
+use Rattle.ap_image.specs.ImageTexts.{image_fault}
+use Rattle.ap_image.specs.TraceTexts.{trace_fault}
+use Rattle.ap_sim.specs.Runnable.{CanRun, HasRunFault}
 use Rattle.ap_top.specs.declared.command.Input.{Input}
 use Rattle.ap_top.specs.declared.command.Input.TheVariants as input
 use Rattle.ap_top.specs.declared.command.Slot.TheVariants as slot
@@ -19,6 +22,7 @@ use Rattle.ap_top.specs.Calls.{Call}
 use Rattle.ap_top.specs.Commands.{Operand, IsCall, IsCommand, operands_of}
 use Rattle.ap_top.specs.Form.{IsFormDescription, HasJudgedFault}
 use Rattle.ap_top.specs.Programs.{HasLeastFaultAfter, IsFaultlessAfter}
+use Rattle.ap_top.specs.RunOn.{HasLeastFaultRunOn, IsFaultlessRunOn}
 
 -- an input: what its text holds, and the file's name
 abbrev pub Source : Type 0
@@ -28,6 +32,7 @@ abbrev pub inputs_in : List Operand → List Source
 inputs_in [] = []
 inputs_in ((slot.Input kind, name) ∷ operands) = (kind, name) ∷ inputs_in operands
 inputs_in ((slot.Output kind, name) ∷ operands) = inputs_in operands
+inputs_in ((slot.Count, word) ∷ operands) = inputs_in operands
 
 -- the inputs that the words of a command name, in order
 abbrev pub inputs_of : Command → List (List ℕ) → List Source
@@ -38,12 +43,18 @@ abbrev pub IsFaultless : List Card → List (List ℕ) → Input → List ℕ �
 IsFaultless cards before input.Description text = (form : Form) × IsFormDescription cards text form
 IsFaultless cards before input.Processor text = IsAccepted text cards
 IsFaultless cards before input.Program text = IsFaultlessAfter cards before text
+IsFaultless cards before input.Netlist text = CanRun text
+IsFaultless cards before input.Image text = IsFaultlessRunOn image_fault before text
+IsFaultless cards before input.Trace text = IsFaultlessRunOn trace_fault before text
 
 -- the text of an input is refused so; the texts of the inputs before it are given
 abbrev pub IsRefused : List Card → List (List ℕ) → Input → List ℕ → Refusal → Type 0
 IsRefused cards before input.Description text (refusal.Description judged) = HasJudgedFault cards text judged
 IsRefused cards before input.Processor text (refusal.Description (judged.Refused least)) = IsLeastFault text cards least
 IsRefused cards before input.Program text (refusal.Program line kind) = HasLeastFaultAfter cards before text line kind
+IsRefused cards before input.Netlist text (refusal.Netlist line kind) = HasRunFault text kind line
+IsRefused cards before input.Image text (refusal.Image line kind) = HasLeastFaultRunOn image_fault before text line kind
+IsRefused cards before input.Trace text (refusal.Trace line kind) = HasLeastFaultRunOn trace_fault before text line kind
 IsRefused cards before kind text refusal = ⊥
 
 -- the file is there

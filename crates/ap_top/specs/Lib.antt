@@ -17,5 +17,7 @@ pub mod Outputs
 pub mod Endings
 pub mod Troubles
 pub mod Generate
+pub mod RunOn
+pub mod Simulation
 pub mod Example
 pub mod Streaming

@@ -4,9 +4,15 @@ use Rattle.std.specs.Fmt.{decimal}
 use Rattle.ap_desc.specs.FaultTable.{code_of}
 use Rattle.ap_desk.specs.declared.desk.DeskFault.{DeskFault}
 use Rattle.ap_desk.specs.declared.desk.DeskFault.TheVariants.{Failed, Missing, NoMemory}
+use Rattle.ap_image.specs.TextFaults as texts
+use Rattle.ap_image.specs.declared.fault.TextFault.{TextFault}
+use Rattle.ap_image.specs.declared.fault.TextFault.TheVariants as told
 use Rattle.ap_program.specs.AsmKinds as kinds
 use Rattle.ap_program.specs.declared.fault.AsmFault.{AsmFault}
 use Rattle.ap_program.specs.declared.fault.AsmFault.TheVariants as assembling
+use Rattle.ap_sim.specs.Kinds as runs
+use Rattle.ap_sim.specs.declared.fault.RunFault.{RunFault}
+use Rattle.ap_sim.specs.declared.fault.RunFault.TheVariants as running
 use Rattle.ap_top.specs.declared.form.Judged.{Judged}
 use Rattle.ap_top.specs.declared.form.Judged.TheVariants as judged
 use Rattle.ap_top.specs.declared.form.ReadFault.{ReadFault}
@@ -14,7 +20,7 @@ use Rattle.ap_top.specs.declared.form.ReadFault.TheVariants as reading
 use Rattle.ap_top.specs.declared.refusal.Stop.{Stop}
 use Rattle.ap_top.specs.declared.refusal.Stop.TheVariants.{Refused, Broken}
 use Rattle.ap_top.specs.declared.refusal.Refusal.{Refusal}
-use Rattle.ap_top.specs.declared.refusal.Refusal.TheVariants.{Usage, Description, Program}
+use Rattle.ap_top.specs.declared.refusal.Refusal.TheVariants.{Usage, Description, Program, Netlist, Image, Trace}
 use Rattle.ap_top.specs.declared.refusal.Trouble.{Trouble}
 use Rattle.ap_top.specs.declared.refusal.Trouble.TheVariants.{Desk, Memory}
 
@@ -27,6 +33,9 @@ abbrev pub refusal_text : Refusal → List ℕ
 refusal_text Usage = codes "usage"
 refusal_text (Description judged) = codes "description: " ++ fault_text judged
 refusal_text (Program line kind) = codes "program: line " ++ decimal line ++ codes ": " ++ kinds.code_of kind
+refusal_text (Netlist line kind) = codes "netlist: line " ++ decimal line ++ codes ": " ++ runs.code_of kind
+refusal_text (Image line kind) = codes "image: line " ++ decimal line ++ codes ": " ++ texts.code_of kind
+refusal_text (Trace line kind) = codes "trace: line " ++ decimal line ++ codes ": " ++ texts.code_of kind
 
 abbrev pub line_feed : List ℕ
 line_feed = 10 ∷ []
@@ -40,6 +49,9 @@ abbrev pub refusal_status : Refusal → ℕ
 refusal_status Usage = 1
 refusal_status (Description judged) = 2
 refusal_status (Program line kind) = 3
+refusal_status (Netlist line kind) = 4
+refusal_status (Image line kind) = 5
+refusal_status (Trace line kind) = 5
 
 -- the line that is printed for a trouble
 abbrev pub trouble_line : Trouble → List ℕ
@@ -66,6 +78,20 @@ stop_of reading.NoMemory = Broken Memory
 abbrev pub stop_of_program : AsmFault → Stop
 stop_of_program (assembling.At line kind) = Refused (Program line kind)
 stop_of_program assembling.NoMemory = Broken Memory
+
+-- how a fault of a netlist does
+abbrev pub stop_of_netlist : RunFault → Stop
+stop_of_netlist (running.At line kind) = Refused (Netlist line kind)
+stop_of_netlist running.NoMemory = Broken Memory
+
+-- how a fault of an image or of a trace does
+abbrev pub stop_of_image : TextFault → Stop
+stop_of_image (told.At line kind) = Refused (Image line kind)
+stop_of_image told.NoMemory = Broken Memory
+
+abbrev pub stop_of_trace : TextFault → Stop
+stop_of_trace (told.At line kind) = Refused (Trace line kind)
+stop_of_trace told.NoMemory = Broken Memory
 
 -- a number that the program answers
 abbrev pub IsRefusalStatus : ℕ → Type 0

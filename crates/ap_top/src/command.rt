@@ -1,8 +1,14 @@
-ghost use Rattle.std.specs.Prelude.{◌≡◌, ◌↔◌, ◌+◌, ◌<◌, length, map, IsTrue, IfSome, IfNone};
+ghost use Rattle.std.specs.Prelude.{◌≡◌, ◌↔◌, ◌+◌, ◌<◌, ◌≤◌, length, map, unwrap_or, IsTrue, IfSome, IfNone};
 ghost use Rattle.std.specs.List.{AllByRecursion as Each, zip};
 ghost use Rattle.std.specs.String.{string_bytes};
 ghost use Rattle.ap_desk.specs.Files.{IsFileName};
-ghost use Rattle.ap_top.specs.Commands.{AreWordsApart, IsCall, IsCommand, IsInput, MayStandWith, AreOperandsOf, name_of, slots_of};
+ghost use Rattle.ap_top.specs.Commands.{AreOperandsOf, AreWordsApart, IsCall, IsCommand, IsFitting, IsWordFor, MayShare, MayStandWith};
+ghost use Rattle.ap_top.specs.Commands.{count_in, counted, name_of, slots_of};
+
+use ap_text::number;
+
+/// The most cycles that a command makes.
+pub const CYCLE_LIMIT: u64 = 1_000_000;
 
 /// What a text that a command reads holds.
 #[derive(Clone, Copy, Debug, PartialEq, Eq)]
@@ -13,6 +19,12 @@ pub enum Input {
     Processor,
     /// A program for it.
     Program,
+    /// A netlist in Verilog, which is run.
+    Netlist,
+    /// The words of the memories that it is run on.
+    Image,
+    /// The values of its inputs in each cycle.
+    Trace,
 }
 
 /// What a text that a command writes holds.
@@ -24,6 +36,8 @@ pub enum Output {
     Image,
     /// The listing of the program.
     Listing,
+    /// What each cycle shows.
+    Rows,
 }
 
 /// What a word after a command's name stands for.
@@ -33,6 +47,8 @@ pub enum Slot {
     Input(Input),
     /// The name of a file that is written.
     Output(Output),
+    /// The number of cycles that are made.
+    Count,
 }
 
 /// A command of the program.
@@ -42,16 +58,29 @@ pub enum Command {
     Gen,
     /// `asm D P I L` reads a description and a program for its processor, and writes the program's image and its listing.
     Asm,
+    /// `sim V I T N O` runs a netlist in Verilog on an image and a trace for N cycles, and writes what each cycle shows.
+    Sim,
 }
 
 impl Slot {
-    /// Whether the word names a file that is read.
-    pub fn is_input(self) -> bool
-        ensures { IsTrue result ↔ IsInput self }
+    /// Whether two words that stand for these may be the same: where both name files that are read, or one names none.
+    pub fn may_share(self, other: Slot) -> bool
+        ensures { IsTrue result ↔ MayShare self other }
+    {
+        match (self, other) {
+            (Slot::Count, _) | (_, Slot::Count) => true,
+            (Slot::Input(_), Slot::Input(_)) => true,
+            (Slot::Output(_), _) | (_, Slot::Output(_)) => false,
+        }
+    }
+
+    /// Whether a word may stand there: the name of a file, or a number of cycles within the limit.
+    pub fn fits(self, word: &str) -> bool
+        ensures { IsTrue result ↔ IsWordFor self word.now }
     {
         match self {
-            Slot::Input(_) => true,
-            Slot::Output(_) => false,
+            Slot::Input(_) | Slot::Output(_) => is_file_name(word),
+            Slot::Count => count_of(word).is_some(),
         }
     }
 }
@@ -65,6 +94,7 @@ impl Command {
         match name {
             "gen" => Some(Command::Gen),
             "asm" => Some(Command::Asm),
+            "sim" => Some(Command::Sim),
             _ => None,
         }
     }
@@ -84,6 +114,13 @@ impl Command {
                 Slot::Output(Output::Image),
                 Slot::Output(Output::Listing),
             ],
+            Command::Sim => &[
+                Slot::Input(Input::Netlist),
+                Slot::Input(Input::Image),
+                Slot::Input(Input::Trace),
+                Slot::Count,
+                Slot::Output(Output::Rows),
+            ],
         }
     }
 
@@ -92,7 +129,7 @@ impl Command {
         ensures { IsTrue result ↔ AreOperandsOf self (map string_bytes words.now) }
     {
         let slots = self.slots();
-        slots.len() == words.len() && are_file_names(words) && are_apart(slots, words)
+        slots.len() == words.len() && are_fitting(slots, words) && are_apart(slots, words)
     }
 }
 
@@ -116,11 +153,45 @@ fn is_file_name(word: &str) -> bool
     !word.is_empty() && word != "-"
 }
 
-fn are_file_names(words: &[String]) -> bool
-    ensures { IsTrue result ↔ Each IsFileName (map string_bytes words.now) }
+/// The number of cycles that a word names, if it names one within the limit.
+pub(crate) fn count_of(word: &str) -> Option<u64>
+    ensures value { result ≡ count_in word.now }
+    ensures most { IfSome result (λ count. count ≤ 1000000) }
 {
-    for word in words {
-        if !is_file_name(word.as_str()) {
+    match number(word.as_bytes()) {
+        Ok(count) => within_limit(count),
+        Err(_) => None,
+    }
+}
+
+/// The number of cycles that a word names, and 0 where it names none within the limit.
+pub(crate) fn cycles_of(word: &str) -> u64
+    ensures value { result ≡ unwrap_or (count_in word.now) 0 }
+    ensures most { result ≤ 1000000 }
+{
+    match count_of(word) {
+        Some(count) => count,
+        None => 0,
+    }
+}
+
+fn within_limit(count: u64) -> Option<u64>
+    ensures value { result ≡ counted count }
+    ensures most { IfSome result (λ count. count ≤ 1000000) }
+{
+    if count <= CYCLE_LIMIT {
+        Some(count)
+    } else {
+        None
+    }
+}
+
+fn are_fitting(slots: &[Slot], words: &[String]) -> bool
+    requires { length slots.now ≡ length words.now }
+    ensures { IsTrue result ↔ Each IsFitting (zip slots.now (map string_bytes words.now)) }
+{
+    for (i, slot) in slots.iter().enumerate() {
+        if !slot.fits(words[i].as_str()) {
             return false;
         }
     }
@@ -155,5 +226,5 @@ fn may_stand_before(slot: Slot, word: &str, slots: &[Slot], words: &[String]) ->
 fn may_stand_with(slot: Slot, word: &str, other_slot: Slot, other: &str) -> bool
     ensures { IsTrue result ↔ MayStandWith (slot, word.now) (other_slot, other.now) }
 {
-    word != other || (slot.is_input() && other_slot.is_input())
+    word != other || slot.may_share(other_slot)
 }

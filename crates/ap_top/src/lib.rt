@@ -14,4 +14,6 @@ pub mod pattern;
 mod printing;
 pub mod refusal;
 pub mod serve;
+mod showing;
+mod simulating;
 mod streaming;

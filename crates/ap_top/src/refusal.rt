@@ -3,13 +3,16 @@ ghost use Rattle.std.specs.String.{string_bytes};
 ghost use Rattle.ap_top.specs.declared.refusal.Trouble.TheVariants.{Memory};
 ghost use Rattle.ap_top.specs.declared.refusal.Stop.TheVariants.{Broken};
 ghost use Rattle.ap_top.specs.Form.{reading_of};
-ghost use Rattle.ap_top.specs.Refusals.{fault_text, refusal_line, refusal_status, refusal_text, stop_of, stop_of_program, trouble_line, trouble_of, trouble_status};
+ghost use Rattle.ap_top.specs.Refusals.{fault_text, refusal_line, refusal_status, refusal_text, trouble_line, trouble_of, trouble_status};
+ghost use Rattle.ap_top.specs.Refusals.{stop_of, stop_of_image, stop_of_netlist, stop_of_program, stop_of_trace};
 
 use crate::form::{Judged, ReadFault};
 use ap_asm::{AsmFault, AsmKind};
 use ap_bits::NoMemory;
 use ap_desc::DescFault;
 use ap_desk::desk::DeskFault;
+use ap_image::{TextFault, TextKind};
+use ap_sim::{RunFault, RunKind};
 use std::alloc::{AllocError, Global};
 use std::fmt;
 
@@ -22,6 +25,12 @@ pub enum Refusal {
     Description(Judged),
     /// The program has a fault of this kind at this line, counted from 1. Line 0 is the text as a whole.
     Program { line: u32, kind: AsmKind },
+    /// The netlist has a fault of this kind at this line, in the same way.
+    Netlist { line: u32, kind: RunKind },
+    /// The image has one.
+    Image { line: u32, kind: TextKind },
+    /// The trace has one.
+    Trace { line: u32, kind: TextKind },
 }
 
 /// What kept a command from being done or refused.
@@ -59,6 +68,18 @@ impl fmt::Display for Refusal {
                 let code = kind.code();
                 write!(f, "program: line {line}: {code}")
             }
+            Refusal::Netlist { line, kind } => {
+                let code = kind.code();
+                write!(f, "netlist: line {line}: {code}")
+            }
+            Refusal::Image { line, kind } => {
+                let code = kind.code();
+                write!(f, "image: line {line}: {code}")
+            }
+            Refusal::Trace { line, kind } => {
+                let code = kind.code();
+                write!(f, "trace: line {line}: {code}")
+            }
         }
     }
 }
@@ -72,6 +93,8 @@ impl Refusal {
             Refusal::Usage => 1,
             Refusal::Description(_) => 2,
             Refusal::Program { .. } => 3,
+            Refusal::Netlist { .. } => 4,
+            Refusal::Image { .. } | Refusal::Trace { .. } => 5,
         }
     }
 
@@ -176,5 +199,36 @@ impl From<AsmFault> for Stop {
             AsmFault::At { line, kind } => Stop::Refused(Refusal::Program { line, kind }),
             AsmFault::NoMemory => Stop::Broken(Trouble::Memory),
         }
+    }
+}
+
+impl From<RunFault> for Stop {
+    ghost from_gives = { λ fault stop. stop ≡ stop_of_netlist fault };
+
+    fn from(fault: RunFault) -> Stop {
+        match fault {
+            RunFault::At { line, kind } => Stop::Refused(Refusal::Netlist { line, kind }),
+            RunFault::NoMemory => Stop::Broken(Trouble::Memory),
+        }
+    }
+}
+
+/// What a fault of the text of an image ends the work with.
+pub(crate) fn stop_of_image(fault: TextFault) -> Stop
+    ensures { result ≡ stop_of_image fault }
+{
+    match fault {
+        TextFault::At { line, kind } => Stop::Refused(Refusal::Image { line, kind }),
+        TextFault::NoMemory => Stop::Broken(Trouble::Memory),
+    }
+}
+
+/// What a fault of the text of a trace ends the work with.
+pub(crate) fn stop_of_trace(fault: TextFault) -> Stop
+    ensures { result ≡ stop_of_trace fault }
+{
+    match fault {
+        TextFault::At { line, kind } => Stop::Refused(Refusal::Trace { line, kind }),
+        TextFault::NoMemory => Stop::Broken(Trouble::Memory),
     }
 }

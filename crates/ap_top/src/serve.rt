@@ -10,10 +10,11 @@ ghost use Rattle.ap_top.specs.Troubles.{IsCaused, StopsAs, desk_stop};
 ghost use Rattle.ap_top.specs.Refusals.{IsOrMemory, IsRefusalStatus, IsStatus, IsTroubleStatus, refusal_status, trouble_status};
 
 use crate::assembling::assemble;
-use crate::command::{Command, command_of};
+use crate::command::{Command, command_of, cycles_of};
 use crate::generate::generate;
 use crate::printing::{give_up, print_line};
 use crate::refusal::{Refusal, Stop, Trouble};
+use crate::simulating::simulate;
 use ap_desk::desk::Desk;
 use ap_desk::sure::SureDesk;
 use ap_unit::{Shelf, UnitKind};
@@ -39,6 +40,15 @@ fn run<D: Desk>(alloc: Global, words: &[String], shelf: &Shelf, desk: &mut D) ->
             words[3].as_str(),
             words[4].as_str(),
             shelf,
+            desk,
+        ),
+        Some(Command::Sim) => simulate(
+            alloc,
+            words[1].as_str(),
+            words[2].as_str(),
+            words[3].as_str(),
+            cycles_of(words[4].as_str()),
+            words[5].as_str(),
             desk,
         ),
     }
@@ -72,8 +82,8 @@ fn answer<D: Desk>(
 /// desk, with the kinds of units of the shelf, and answers the program's status.
 ///
 /// 0: the command is done. 1: the words are no command. 2: the description has a fault, or asks for a unit that the shelf
-/// hasn't. 3: the program has a fault. 6: the desk failed, or an input isn't there. 7: memory ran out. For 1, 2, 3, 6 and 7 a
-/// line on the file `-` says why. Where a call of the desk failed or missed its file, the answer is 6 or 7, and 7 only where it missed none.
+/// hasn't. 3: the program has a fault. 4: the netlist has a fault. 5: the image or the trace has one. 6: the desk failed, or an
+/// input isn't there. 7: memory ran out. For all but 0 a line on the file `-` says why. Where a call of the desk failed or missed its file, the answer is 6 or 7, and 7 only where it missed none.
 pub fn serve<D: Desk>(alloc: Global, words: &[String], shelf: &Shelf, desk: &mut D) -> u8
     ensures status { IsStatus result }
 

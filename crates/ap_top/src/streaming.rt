@@ -12,7 +12,7 @@ use ap_vw::Printer;
 use std::alloc::Global;
 
 /// Appends what is held to the file, where that is at least so many bytes, and then holds nothing.
-fn flush<D: Desk>(
+pub(crate) fn flush<D: Desk>(
     desk: &mut D,
     name: &str,
     least: usize,

@@ -11,3 +11,5 @@ mod desk_tests;
 mod kinds;
 #[cfg(test)]
 mod serve_tests;
+#[cfg(test)]
+mod sim_tests;
