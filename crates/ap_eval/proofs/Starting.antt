@@ -1,8 +1,8 @@
 -- The state of a bench after the reset edge.
-use Rattle.std.proofs.Common.{◌≡◌, ◌≢◌, ℕ, zero, suc, ◌+◌, ◌^◌, ◌<◌, ◌≤◌, ◌⊎◌, inl, inr, List, [], ◌∷◌, length, map, get_or, Option, Some, refl, sym, ap, subst, ◌∙◌, arith}
+use Rattle.std.proofs.Common.{◌≡◌, ◌≢◌, ℕ, zero, suc, ◌+◌, ◌^◌, ◌<◌, ◌≤◌, ◌⊎◌, inl, inr, List, [], ◌∷◌, ◌++◌, length, map, take, get_or, Option, Some, refl, sym, ap, subst, ◌∙◌, arith}
 use Rattle.std.specs.Prelude.{slice_get, slice_index, option_map}
 use Rattle.std.specs.List.{AllByRecursion as Each}
-use Rattle.std.proofs.lemmas.List.{length-map}
+use Rattle.std.proofs.lemmas.List.{length-map, map_push, take_more}
 use Rattle.std.proofs.lemmas.Option.{get_or_from_slice_get, slice_get-map}
 use Rattle.ap_image.specs.declared.image.Image.{Image}
 use Rattle.ap_image.specs.declared.shape.MemShape.{MemShape}
@@ -43,6 +43,18 @@ fit_at [] (x ∷ ms) fits n lt words m = absurd fits
 fit_at (w ∷ mems) [] fits n lt words m = absurd fits
 fit_at (w ∷ mems) (x ∷ ms) fits zero lt words m = fits.0
 fit_at (w ∷ mems) (x ∷ ms) fits (suc n) lt words m = fit_at mems ms fits.1 n (omega arith) words m
+
+-- a memory more, with the next words
+pub rooms_more : (ms : List MemShape) (n : ℕ) (d : MemShape) → n < length ms → (head : ℕ) (before after : List Cells) (m : Cells) → after ≡ before ++ m ∷ [] → m.room ≡ 2 ^ (get_or ms n d).address
+    → rooms_of before ≡ head ∷ map (λ (x : MemShape). 2 ^ x.address) (take n ms) → rooms_of after ≡ head ∷ map (λ (x : MemShape). 2 ^ x.address) (take (n + 1) ms)
+rooms_more ms n d lt head before after m grown room so =
+    ap rooms_of grown ∙ map_push (λ (x : Cells). x.room) before m ∙ (λ i. so i ++ room i ∷ [])
+    ∙ ap (λ (l : List ℕ). head ∷ l) (sym (map_push (λ (x : MemShape). 2 ^ x.address) (take n ms) (get_or ms n d)) ∙ ap (map (λ (x : MemShape). 2 ^ x.address)) (sym (take_more ms n d lt)))
+
+pub words_more : (mems : List (List ℕ)) (n : ℕ) (d : List ℕ) → n < length mems → (code : List ℕ) (before after : List Cells) (m : Cells) → after ≡ before ++ m ∷ [] → m.words ≡ get_or mems n d
+    → words_of before ≡ code ∷ take n mems → words_of after ≡ code ∷ take (n + 1) mems
+words_more mems n d lt code before after m grown words so =
+    ap words_of grown ∙ map_push (λ (x : Cells). x.words) before m ∙ (λ i. so i ++ words i ∷ []) ∙ ap (λ (l : List (List ℕ)). code ∷ l) (sym (take_more mems n d lt))
 
 module _ (f : FlatParts) (is : IsFlattened f) where
   abbrev nets : List ModuleNet
