@@ -24,7 +24,7 @@ new-requires-in-loop-number-clause-room c =
     let low : n < length ms = omega (arith, c.loop-number-test.true) in
     let room = (fit_at c.args.image.now.mems ms c.requires.mems n low c.index-words-number.result c.index-mems-number.result).room in
     let words : c.as_slice-in-loop-number.result.now ≡ get_or c.args.image.now.mems n c.index-words-number.result =
-    c.as_slice-in-loop-number.ensures ∙ ap (λ (l : List (List ℕ)). get_or l n c.index-words-number.result) c.as_slice-words.ensures in
+    c.as_slice-in-loop-number.ensures ∙ c.index-words-number.is ∙ ap (λ (l : List (List ℕ)). get_or l n c.index-words-number.result) c.as_slice-words.ensures in
     subst (λ (l : List MemShape). length c.as_slice-in-loop-number.result.now ≤ 2 ^ (get_or l n c.index-mems-number.result).address) (sym are)
     (subst (λ (l : List ℕ). length l ≤ 2 ^ (get_or ms n c.index-mems-number.result).address) (sym words) room)
 
@@ -39,7 +39,7 @@ loop-number-preserved c =
     let fit : length c.args.image.now.mems ≡ length ms = mems_long c.args.image.now.mems ms c.requires.mems in
     let room : c.in_ok-memory.memory.room ≡ 2 ^ (get_or ms n d).address = ap (λ (m : Cells). m.room) c.in_ok-memory.ensures ∙ ap (λ (l : List MemShape). 2 ^ (get_or l n d).address) are in
     let words : c.in_ok-memory.memory.words ≡ get_or c.args.image.now.mems n c.index-words-number.result =
-    ap (λ (m : Cells). m.words) c.in_ok-memory.ensures ∙ c.as_slice-in-loop-number.ensures ∙ ap (λ (l : List (List ℕ)). get_or l n c.index-words-number.result) c.as_slice-words.ensures in
+    ap (λ (m : Cells). m.words) c.in_ok-memory.ensures ∙ c.as_slice-in-loop-number.ensures ∙ c.index-words-number.is ∙ ap (λ (l : List (List ℕ)). get_or l n c.index-words-number.result) c.as_slice-words.ensures in
     record {
       rooms = rooms_more ms n d low _ c.loop-number.memories.items _ c.in_ok-memory.memory c.in_ok-push-2.ensures.items room c.loop-number.invariant.rooms;
       words = words_more c.args.image.now.mems n c.index-words-number.result (omega arith) c.args.image.now.code c.loop-number.memories.items _ c.in_ok-memory.memory c.in_ok-push-2.ensures.items words c.loop-number.invariant.words;
