@@ -12,3 +12,4 @@ pub mod Writing
 pub mod Fitting
 pub mod Able
 pub mod Texts
+pub mod Following
