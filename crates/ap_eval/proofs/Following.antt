@@ -1,5 +1,5 @@
 -- From a state of an opened netlist there is one cycle on a line: so a bench goes through the states of each run.
-use Rattle.std.proofs.Common.{◌≡◌, ℕ, zero, suc, ◌+◌, ◌%◌, ◌<◌, ◌≤◌, ◌^◌, ◌⊎◌, inl, inr, List, [], ◌∷◌, ◌++◌, length, map, take, Option, Some, None, Bool, true, false, refl, sym, ap, subst, ◌∙◌, arith}
+use Rattle.std.proofs.Common.{◌≡◌, ℕ, zero, suc, ◌+◌, ◌%◌, ◌<◌, ◌≤◌, ◌^◌, ◌⊎◌, inl, inr, List, [], ◌∷◌, ◌++◌, length, map, Option, Some, None, Bool, true, false, refl, sym, ap, subst, ◌∙◌, arith}
 use Rattle.std.specs.Prelude.{codes, slice_get, slice_index, option_map, unwrap_or, if◌then◌else◌}
 use Rattle.std.specs.List.{AllByRecursion as Each}
 use Rattle.std.proofs.Math.Nat.{mod-eq_of_lt}
@@ -77,14 +77,20 @@ inputs_given nets v (q ∷ ps) (x ∷ values) n rest more fits named are after (
     (λ j r there enters. after j r there enters ∙ ap (λ k. Some (slice_index v k)) (let e : n + suc (length ps) + j ≡ suc n + length ps + j = omega arith in e)) i p at is
     ∙ ap (λ k. Some (slice_index v k)) (let e : suc n + i ≡ n + suc i = omega arith in e)
 
--- as many values as there are inputs are taken, and they fit
+-- the values that inputs take
+abbrev first_of : List InPort → List ℕ → List ℕ
+first_of [] values = []
+first_of (p ∷ ps) [] = []
+first_of (p ∷ ps) (x ∷ values) = x ∷ first_of ps values
+
+-- they fit
 inputs_fit : (nets : List FlatNet) (v : List ℕ) (ps : List InPort) (values : List ℕ) (rest : List Port) → Each (λ (p : Port). value_named nets v p.name < 2 ^ p.width) (input_ports ps ++ rest) → InputsAre nets v ps values
-    → ValuesFit (take (length ps) values) (map (λ (p : InPort). p.width) ps)
+    → ValuesFit (first_of ps values) (map (λ (p : InPort). p.width) ps)
 inputs_fit nets v [] values rest small are = tt
 inputs_fit nets v (p ∷ ps) [] rest small are = absurd are
 inputs_fit nets v (p ∷ ps) (x ∷ values) rest small are = (subst (λ y. y < 2 ^ p.width) are.0 small.0, inputs_fit nets v ps values rest small.1 are.1)
 
-inputs_taken : (nets : List FlatNet) (v : List ℕ) (ps : List InPort) (values : List ℕ) → InputsAre nets v ps values → InputsAre nets v ps (take (length ps) values)
+inputs_taken : (nets : List FlatNet) (v : List ℕ) (ps : List InPort) (values : List ℕ) → InputsAre nets v ps values → InputsAre nets v ps (first_of ps values)
 inputs_taken nets v [] values are = tt
 inputs_taken nets v (p ∷ ps) [] are = absurd are
 inputs_taken nets v (p ∷ ps) (x ∷ values) are = (are.0, inputs_taken nets v ps values are.1)
@@ -95,10 +101,10 @@ mems_short read [] mems n rest = omega arith
 mems_short read (m ∷ ms) [] n rest = omega arith
 mems_short read (m ∷ ms) (words ∷ mems) n rest = let e : length (mem_gives read (n + 5) ms mems) ≤ length (mem_ports ms ++ rest) = mems_short read ms mems (n + 5) rest in omega arith
 
-inputs_short : (ps : List InPort) (values : List ℕ) (rest : List Port) (more : List ℕ) → length more ≤ length rest → length (take (length ps) values ++ more) ≤ length (input_ports ps ++ rest)
+inputs_short : (ps : List InPort) (values : List ℕ) (rest : List Port) (more : List ℕ) → length more ≤ length rest → length (first_of ps values ++ more) ≤ length (input_ports ps ++ rest)
 inputs_short [] values rest more le = le
-inputs_short (p ∷ ps) [] rest more le = let e : length more ≤ length (input_ports ps ++ rest) = inputs_short ps [] rest more le in omega arith
-inputs_short (p ∷ ps) (x ∷ values) rest more le = let e : length (take (length ps) values ++ more) ≤ length (input_ports ps ++ rest) = inputs_short ps values rest more le in omega arith
+inputs_short (p ∷ ps) [] rest more le = let e : length (input_ports ps ++ rest) ≡ length (input_ports ps) + length rest = length-append (input_ports ps) rest in omega arith
+inputs_short (p ∷ ps) (x ∷ values) rest more le = let e : length (first_of ps values ++ more) ≤ length (input_ports ps ++ rest) = inputs_short ps values rest more le in omega arith
 
 -- the bits of a net
 abbrev bits_of : Option ModuleNet → ℕ
@@ -122,7 +128,7 @@ module _ (f : FlatParts) (is : IsFlattened f) (code : List ℕ) (line : TraceLin
 
   -- the line without the values that no port takes
   abbrev cut : TraceLine
-  cut = record { wait = line.wait; ports = take (length o.inputs) line.ports }
+  cut = record { wait = line.wait; ports = first_of o.inputs line.ports }
 
   abbrev gives : (ℕ → ℕ) → List ℕ
   gives read = port_gives o code cut old.mems read
