@@ -45,29 +45,38 @@ leaves : {X : Type 0} (q p : Port) → q ≡ p → q.output ≡ true → p.outpu
 leaves q p same out is = let e : q.output ≡ p.output = ap (λ (x : Port). x.output) same in cc
 
 -- at an input of a memory stands the word that the memory has there
-mems_given : (nets : List FlatNet) (v : List ℕ) (ms : List MemShape) (mems : List (List ℕ)) (n : ℕ) (rest : List Port) → ((i : ℕ) (p : Port) → slice_get rest i ≡ Some p → p.output ≡ true)
+mems_given : (nets : List FlatNet) (v : List ℕ) (ms : List MemShape) (mems : List (List ℕ)) (n : ℕ) (rest : List Port)
+    → ((i : ℕ) (p : Port) → slice_get rest i ≡ Some p → p.output ≡ true)
     → PortsNamed nets v n (mem_ports ms ++ rest) → MemsAnswer nets v ms mems
-    → (i : ℕ) (p : Port) → slice_get (mem_ports ms ++ rest) i ≡ Some p → p.output ≡ false → slice_get (mem_gives (slice_index v) n ms mems) i ≡ Some (slice_index v (n + i))
+    → (i : ℕ) (p : Port) → slice_get (mem_ports ms ++ rest) i ≡ Some p → p.output ≡ false
+    → slice_get (mem_gives (slice_index v) n ms mems) i ≡ Some (slice_index v (n + i))
 mems_given nets v [] mems n rest leave named answer i p at is = let out : p.output ≡ true = leave i p at in cc
 mems_given nets v (m ∷ ms) [] n rest leave named answer i p at is = absurd answer
-mems_given nets v (m ∷ ms) (words ∷ mems) n rest leave named answer zero p at is = leaves (output (mem_name m (codes "ra")) m.address) p (some_same at) refl is
+mems_given nets v (m ∷ ms) (words ∷ mems) n rest leave named answer zero p at is =
+    leaves (output (mem_name m (codes "ra")) m.address) p (some_same at) refl is
 mems_given nets v (m ∷ ms) (words ∷ mems) n rest leave named answer (suc zero) p at is =
     let next : suc n ≡ n + suc zero = omega arith in
     ap Some (ap (slice_index words) (sym named.0) ∙ sym answer.0 ∙ named.1.0 ∙ ap (slice_index v) next)
-mems_given nets v (m ∷ ms) (words ∷ mems) n rest leave named answer (suc (suc zero)) p at is = leaves (output (mem_name m (codes "we")) 1) p (some_same at) refl is
-mems_given nets v (m ∷ ms) (words ∷ mems) n rest leave named answer (suc (suc (suc zero))) p at is = leaves (output (mem_name m (codes "wa")) m.address) p (some_same at) refl is
-mems_given nets v (m ∷ ms) (words ∷ mems) n rest leave named answer (suc (suc (suc (suc zero)))) p at is = leaves (output (mem_name m (codes "wd")) m.width) p (some_same at) refl is
+mems_given nets v (m ∷ ms) (words ∷ mems) n rest leave named answer (suc (suc zero)) p at is =
+    leaves (output (mem_name m (codes "we")) 1) p (some_same at) refl is
+mems_given nets v (m ∷ ms) (words ∷ mems) n rest leave named answer (suc (suc (suc zero))) p at is =
+    leaves (output (mem_name m (codes "wa")) m.address) p (some_same at) refl is
+mems_given nets v (m ∷ ms) (words ∷ mems) n rest leave named answer (suc (suc (suc (suc zero)))) p at is =
+    leaves (output (mem_name m (codes "wd")) m.width) p (some_same at) refl is
 mems_given nets v (m ∷ ms) (words ∷ mems) n rest leave named answer (suc (suc (suc (suc (suc i))))) p at is =
     let five : suc (suc (suc (suc (suc n)))) ≡ n + 5 = omega arith in
     let same : n + 5 + i ≡ n + suc (suc (suc (suc (suc i)))) = omega arith in
     mems_given nets v ms mems (n + 5) rest leave (subst (λ k. PortsNamed nets v k (mem_ports ms ++ rest)) five named.1.1.1.1.1) answer.1 i p at is ∙ ap (λ k. Some (slice_index v k)) same
 
 -- and at an input of the description its value
-inputs_given : (nets : List FlatNet) (v : List ℕ) (ps : List InPort) (values : List ℕ) (n : ℕ) (rest : List Port) (more : List ℕ) → ValuesFit values (map (λ (p : InPort). p.width) ps)
+inputs_given : (nets : List FlatNet) (v : List ℕ) (ps : List InPort) (values : List ℕ) (n : ℕ) (rest : List Port) (more : List ℕ)
+    → ValuesFit values (map (λ (p : InPort). p.width) ps)
     → PortsNamed nets v n (input_ports ps ++ rest) → InputsAre nets v ps values
     → ((i : ℕ) (p : Port) → slice_get rest i ≡ Some p → p.output ≡ false → slice_get more i ≡ Some (slice_index v (n + length ps + i)))
-    → (i : ℕ) (p : Port) → slice_get (input_ports ps ++ rest) i ≡ Some p → p.output ≡ false → slice_get (values ++ more) i ≡ Some (slice_index v (n + i))
-inputs_given nets v [] [] n rest more fits named are after i p at is = after i p at is ∙ ap (λ k. Some (slice_index v k)) (let e : n + 0 + i ≡ n + i = omega arith in e)
+    → (i : ℕ) (p : Port) → slice_get (input_ports ps ++ rest) i ≡ Some p → p.output ≡ false
+    → slice_get (values ++ more) i ≡ Some (slice_index v (n + i))
+inputs_given nets v [] [] n rest more fits named are after i p at is =
+    after i p at is ∙ ap (λ k. Some (slice_index v k)) (let e : n + 0 + i ≡ n + i = omega arith in e)
 inputs_given nets v [] (x ∷ values) n rest more fits named are after i p at is = absurd fits
 inputs_given nets v (q ∷ ps) [] n rest more fits named are after i p at is = absurd fits
 inputs_given nets v (q ∷ ps) (x ∷ values) n rest more fits named are after zero p at is =
@@ -84,27 +93,34 @@ first_of (p ∷ ps) [] = []
 first_of (p ∷ ps) (x ∷ values) = x ∷ first_of ps values
 
 -- they fit
-inputs_fit : (nets : List FlatNet) (v : List ℕ) (ps : List InPort) (values : List ℕ) (rest : List Port) → Each (λ (p : Port). value_named nets v p.name < 2 ^ p.width) (input_ports ps ++ rest) → InputsAre nets v ps values
+inputs_fit : (nets : List FlatNet) (v : List ℕ) (ps : List InPort) (values : List ℕ) (rest : List Port)
+    → Each (λ (p : Port). value_named nets v p.name < 2 ^ p.width) (input_ports ps ++ rest) → InputsAre nets v ps values
     → ValuesFit (first_of ps values) (map (λ (p : InPort). p.width) ps)
 inputs_fit nets v [] values rest small are = tt
 inputs_fit nets v (p ∷ ps) [] rest small are = absurd are
 inputs_fit nets v (p ∷ ps) (x ∷ values) rest small are = (subst (λ y. y < 2 ^ p.width) are.0 small.0, inputs_fit nets v ps values rest small.1 are.1)
 
-inputs_taken : (nets : List FlatNet) (v : List ℕ) (ps : List InPort) (values : List ℕ) → InputsAre nets v ps values → InputsAre nets v ps (first_of ps values)
+inputs_taken : (nets : List FlatNet) (v : List ℕ) (ps : List InPort) (values : List ℕ) → InputsAre nets v ps values
+    → InputsAre nets v ps (first_of ps values)
 inputs_taken nets v [] values are = tt
 inputs_taken nets v (p ∷ ps) [] are = absurd are
 inputs_taken nets v (p ∷ ps) (x ∷ values) are = (are.0, inputs_taken nets v ps values are.1)
 
 -- no more ports are given something than there are
-mems_short : (read : ℕ → ℕ) (ms : List MemShape) (mems : List (List ℕ)) (n : ℕ) (rest : List Port) → length (mem_gives read n ms mems) ≤ length (mem_ports ms ++ rest)
+mems_short : (read : ℕ → ℕ) (ms : List MemShape) (mems : List (List ℕ)) (n : ℕ) (rest : List Port)
+    → length (mem_gives read n ms mems) ≤ length (mem_ports ms ++ rest)
 mems_short read [] mems n rest = omega arith
 mems_short read (m ∷ ms) [] n rest = omega arith
-mems_short read (m ∷ ms) (words ∷ mems) n rest = let e : length (mem_gives read (n + 5) ms mems) ≤ length (mem_ports ms ++ rest) = mems_short read ms mems (n + 5) rest in omega arith
+mems_short read (m ∷ ms) (words ∷ mems) n rest =
+    let e : length (mem_gives read (n + 5) ms mems) ≤ length (mem_ports ms ++ rest) = mems_short read ms mems (n + 5) rest in omega arith
 
-inputs_short : (ps : List InPort) (values : List ℕ) (rest : List Port) (more : List ℕ) → length more ≤ length rest → length (first_of ps values ++ more) ≤ length (input_ports ps ++ rest)
+inputs_short : (ps : List InPort) (values : List ℕ) (rest : List Port) (more : List ℕ) → length more ≤ length rest
+    → length (first_of ps values ++ more) ≤ length (input_ports ps ++ rest)
 inputs_short [] values rest more le = le
-inputs_short (p ∷ ps) [] rest more le = let e : length (input_ports ps ++ rest) ≡ length (input_ports ps) + length rest = length-append (input_ports ps) rest in omega arith
-inputs_short (p ∷ ps) (x ∷ values) rest more le = let e : length (first_of ps values ++ more) ≤ length (input_ports ps ++ rest) = inputs_short ps values rest more le in omega arith
+inputs_short (p ∷ ps) [] rest more le =
+    let e : length (input_ports ps ++ rest) ≡ length (input_ports ps) + length rest = length-append (input_ports ps) rest in omega arith
+inputs_short (p ∷ ps) (x ∷ values) rest more le =
+    let e : length (first_of ps values ++ more) ≤ length (input_ports ps ++ rest) = inputs_short ps values rest more le in omega arith
 
 -- the bits of a net
 abbrev bits_of : Option ModuleNet → ℕ
@@ -126,9 +142,18 @@ module _ (f : FlatParts) (is : IsFlattened f) (code : List ℕ) (line : TraceLin
   abbrev rest : List Port
   rest = input_ports o.inputs ++ (mem_ports o.mems ++ behind o)
 
+  abbrev later : List Port
+  later = mem_ports o.mems ++ behind o
+
+  abbrev top : Port → FlatNet
+  top q = top_net (port_net q)
+
   -- the line without the values that no port takes
   abbrev cut : TraceLine
   cut = record { wait = line.wait; ports = first_of o.inputs line.ports }
+
+  abbrev mem_part : (ℕ → ℕ) → List ℕ
+  mem_part read = mem_gives read (first_mem_port o) o.mems old.mems
 
   abbrev gives : (ℕ → ℕ) → List ℕ
   gives read = port_gives o code cut old.mems read
@@ -140,45 +165,53 @@ module _ (f : FlatParts) (is : IsFlattened f) (code : List ℕ) (line : TraceLin
   few_given : (read : ℕ → ℕ) → length (gives read) ≤ length (ports_of o)
   few_given read =
       let more = mems_short read o.mems old.mems (first_mem_port o) (behind o) in
-      let e : length (cut.ports ++ mem_gives read (first_mem_port o) o.mems old.mems) ≤ length rest = inputs_short o.inputs line.ports (mem_ports o.mems ++ behind o) (mem_gives read (first_mem_port o) o.mems old.mems) more in
+      let e : length (cut.ports ++ mem_part read) ≤ length rest = inputs_short o.inputs line.ports later (mem_part read) more in
       let all : length (ports_of o) ≡ suc (suc (suc (length rest))) = ap length (ports_split o) in
+      let own : length (gives read) ≡ suc (suc (suc (length (cut.ports ++ mem_part read)))) = refl in
       omega arith
 
   plain_at : (n : ℕ) (net : FlatNet) → slice_get flat.nets n ≡ Some net → slice_get nets n ≡ Some (plain_net net)
   plain_at n net at = slice_get-map plain_net flat.nets n ∙ ap (option_map plain_net) at
 
   -- an input is a port
-  input_port : (n : ℕ) (net : FlatNet) → slice_get flat.nets n ≡ Some net → net.role ≡ role.Input → (p : Port) × (slice_get (ports_of o) n ≡ Some p) × (p.output ≡ false)
-  input_port n net at enters = go (get_either (map (λ (q : Port). top_net (port_net q)) (ports_of o)) is.ports.others n net (subst (λ (l : List FlatNet). slice_get l n ≡ Some net) is.ports.split at))
+  input_port : (n : ℕ) (net : FlatNet) → slice_get flat.nets n ≡ Some net → net.role ≡ role.Input
+      → (p : Port) × (slice_get (ports_of o) n ≡ Some p) × (p.output ≡ false)
+  input_port n net at enters =
+      go (get_either (map top (ports_of o)) is.ports.others n net (subst (λ (l : List FlatNet). slice_get l n ≡ Some net) is.ports.split at))
     where
       out_of : (b : Bool) → (if b then role.Output else role.Input) ≡ role.Input → b ≡ false
       out_of true e = cc
       out_of false e = refl
 
-      go : (slice_get (map (λ (q : Port). top_net (port_net q)) (ports_of o)) n ≡ Some net) ⊎ ((i : ℕ) × (n ≡ length (map (λ (q : Port). top_net (port_net q)) (ports_of o)) + i) × (slice_get is.ports.others i ≡ Some net)) → (p : Port) × (slice_get (ports_of o) n ≡ Some p) × (p.output ≡ false)
-      go (inl here) = let p = unmapped (λ (q : Port). top_net (port_net q)) (ports_of o) n net here in (p.0, p.1, out_of (p.0).output (ap (λ (x : FlatNet). x.role) p.2 ∙ enters))
+      go : (slice_get (map top (ports_of o)) n ≡ Some net) ⊎ ((i : ℕ) × (n ≡ length (map top (ports_of o)) + i) × (slice_get is.ports.others i ≡ Some net)) → (p : Port) × (slice_get (ports_of o) n ≡ Some p) × (p.output ≡ false)
+      go (inl here) = let p = unmapped top (ports_of o) n net here in (p.0, p.1, out_of (p.0).output (ap (λ (x : FlatNet). x.role) p.2 ∙ enters))
       go (inr past) = absurd (is.ports.within past.0 net past.2 enters)
 
   module _ (v : List ℕ) (new : NetState) (c : Cycle o flat code line old v new) where
     port_small : (n : ℕ) (p : Port) → slice_get (ports_of o) n ≡ Some p → value_named flat.nets v p.name < 2 ^ p.width
-    port_small n p at = subst (λ x. x < 2 ^ p.width) (sym (port_named f is v c.solves.long n p at)) (c.solves.settles.fits n p.width (width_at nets n (port_net p) (whole_port f is n p at)))
+    port_small n p at =
+        subst (λ x. x < 2 ^ p.width) (sym (port_named f is v c.solves.long n p at)) (c.solves.settles.fits n p.width (width_at nets n (port_net p) (whole_port f is n p at)))
 
     cut_fits : LineFitsShape cut (shape_of o)
     cut_fits =
         let all = subst (Each (λ (p : Port). value_named flat.nets v p.name < 2 ^ p.width)) (ports_split o) (Each-at (λ (p : Port). value_named flat.nets v p.name < 2 ^ p.width) (ports_of o) port_small) in
-        inputs_fit flat.nets v o.inputs line.ports (mem_ports o.mems ++ behind o) all.1.1.1 c.inputs
+        inputs_fit flat.nets v o.inputs line.ports later all.1.1.1 c.inputs
 
-    mems_have : (i : ℕ) (p : Port) → slice_get (mem_ports o.mems ++ behind o) i ≡ Some p → p.output ≡ false → slice_get (mem_gives (slice_index v) (first_mem_port o) o.mems old.mems) i ≡ Some (slice_index v (first_mem_port o + i))
-    mems_have = mems_given flat.nets v o.mems old.mems (first_mem_port o) (behind o) (behind_out o) (named_behind flat.nets v o.inputs 3 (mem_ports o.mems ++ behind o) (rest_named f is v c.solves.long)) c.reads
+    mems_have : (i : ℕ) (p : Port) → slice_get later i ≡ Some p → p.output ≡ false
+        → slice_get (mem_part (slice_index v)) i ≡ Some (slice_index v (first_mem_port o + i))
+    mems_have =
+        mems_given flat.nets v o.mems old.mems (first_mem_port o) (behind o) (behind_out o) (named_behind flat.nets v o.inputs 3 later (rest_named f is v c.solves.long)) c.reads
 
-    rest_has : (i : ℕ) (p : Port) → slice_get rest i ≡ Some p → p.output ≡ false → slice_get (cut.ports ++ mem_gives (slice_index v) (first_mem_port o) o.mems old.mems) i ≡ Some (slice_index v (3 + i))
-    rest_has = inputs_given flat.nets v o.inputs cut.ports 3 (mem_ports o.mems ++ behind o) (mem_gives (slice_index v) (first_mem_port o) o.mems old.mems) cut_fits (rest_named f is v c.solves.long)
+    rest_has : (i : ℕ) (p : Port) → slice_get rest i ≡ Some p → p.output ≡ false
+        → slice_get (cut.ports ++ mem_part (slice_index v)) i ≡ Some (slice_index v (3 + i))
+    rest_has = inputs_given flat.nets v o.inputs cut.ports 3 later (mem_part (slice_index v)) cut_fits (rest_named f is v c.solves.long)
         (inputs_taken flat.nets v o.inputs line.ports c.inputs) mems_have
 
     -- an input has what it is given
     input_has : (n : ℕ) (p : Port) → slice_get (ports_of o) n ≡ Some p → p.output ≡ false → had n (slice_index v) ≡ slice_index v n
     input_has zero p at is_in = leaves (output (codes "iaddr") o.address) p (some_same at) refl is_in
-    input_has (suc zero) p at is_in = ap (slice_index code) (sym (port_named f is v c.solves.long 0 _ refl)) ∙ sym c.fetch ∙ port_named f is v c.solves.long 1 _ refl
+    input_has (suc zero) p at is_in =
+        ap (slice_index code) (sym (port_named f is v c.solves.long 0 _ refl)) ∙ sym c.fetch ∙ port_named f is v c.solves.long 1 _ refl
     input_has (suc (suc zero)) p at is_in = sym c.wait ∙ port_named f is v c.solves.long 2 _ refl
     input_has (suc (suc (suc i))) p at is_in =
         let three : 3 + i ≡ suc (suc (suc i)) = omega arith in
@@ -186,7 +219,8 @@ module _ (f : FlatParts) (is : IsFlattened f) (code : List ℕ) (line : TraceLin
         ap (λ q. unwrap_or q (held flat.nexts old.registers (suc (suc (suc i))))) (rest_has i p there is_in) ∙ ap (slice_index v) three
 
     -- and a register what it holds
-    register_has : (n : ℕ) (net : FlatNet) (reset : ℕ) → slice_get flat.nets n ≡ Some net → net.role ≡ role.Register reset → had n (slice_index v) ≡ slice_index v n
+    register_has : (n : ℕ) (net : FlatNet) (reset : ℕ) → slice_get flat.nets n ≡ Some net → net.role ≡ role.Register reset
+        → had n (slice_index v) ≡ slice_index v n
     register_has n net reset at is_reg =
         not_given (held flat.nexts old.registers n) (slice_get (gives (slice_index v)) n) no_port ∙ go (held_read (slice_index v) flat.nexts n)
       where
@@ -215,7 +249,8 @@ module _ (f : FlatParts) (is : IsFlattened f) (code : List ℕ) (line : TraceLin
   abbrev given : Given nets
   given = record {
     number = λ n read. had n read % 2 ^ bits_of (slice_get nets n);
-    fits = λ n net read at source. subst (λ q. had n read % 2 ^ bits_of q < 2 ^ net.width) (sym at) (mod_below (had n read) (2 ^ net.width) (pow_pos net.width));
+    fits =
+        λ n net read at source. subst (λ q. had n read % 2 ^ bits_of q < 2 ^ net.width) (sym at) (mod_below (had n read) (2 ^ net.width) (pow_pos net.width));
   }
 
   -- it depends on nets of lower rank alone
