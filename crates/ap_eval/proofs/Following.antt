@@ -18,21 +18,21 @@ use Rattle.ap_net.specs.declared.net.Role.TheVariants as role
 use Rattle.ap_net.specs.Answering.{first_mem_port, mem_gives, port_gives}
 use Rattle.ap_net.specs.Flat.{Flat, plain_net, plain_nets, top_net, value_named}
 use Rattle.ap_net.specs.Modules.{port_net}
-use Rattle.ap_net.specs.Outside.{FilePort, Group, InPort, Outside, group_name, group_ports, index_port, input, input_name, input_ports, mem_name, mem_ports, output, ports_of, shape_of}
+use Rattle.ap_net.specs.Outside.{InPort, Outside, input_ports, mem_name, mem_ports, output, ports_of, shape_of}
 use Rattle.ap_net.specs.Registers.{held}
 use Rattle.ap_net.specs.Rows.{shown_row}
-use Rattle.ap_net.specs.Runs.{Cycle, InputsAre, MemsAnswer, NetState, Runs, bit, mems_after}
+use Rattle.ap_net.specs.Runs.{Cycle, InputsAre, MemsAnswer, NetState, mems_after}
 use Rattle.ap_net.specs.Sources.{Given, IsOrderedWith, Takes}
 use Rattle.ap_net.specs.Wiring.{IsSource, Unclocked}
 use Rattle.ap_net.proofs.Answered.{PortsNamed, behind, gives_agree, named_behind, ports_split}
 use Rattle.ap_net.proofs.Finished.{unmapped}
 use Rattle.ap_net.proofs.Fits.{length-plain}
-use Rattle.ap_net.proofs.Lists.{All-at, All-from, Each-at, get_either, some_same}
+use Rattle.ap_net.proofs.Lists.{All-from, Each-at, get_either, some_same}
 use Rattle.ap_net.proofs.Parts.{width_at}
 use Rattle.ap_net.proofs.Unique.{solved_once}
 use Rattle.ap_flat.specs.Dependence.{Looks}
 use Rattle.ap_flat.specs.Flats.{FlatParts, IsFlattened}
-use Rattle.ap_eval.specs.Benches.{BenchState, StandsIn, Steps, StepsInRuns}
+use Rattle.ap_eval.specs.Benches.{StepsInRuns}
 use Rattle.ap_eval.proofs.Beginning.{behind_out, some_in}
 use Rattle.ap_eval.proofs.Edge.{held_read}
 use Rattle.ap_eval.proofs.Going.{no_register, not_given, port_named, rest_named, whole_port}
