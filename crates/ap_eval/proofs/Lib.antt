@@ -15,3 +15,4 @@ pub mod Texts
 pub mod Limits
 pub mod Keeping
 pub mod Starting
+pub mod Following
