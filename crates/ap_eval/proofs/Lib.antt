@@ -12,3 +12,7 @@ pub mod Writing
 pub mod Fitting
 pub mod Able
 pub mod Texts
+pub mod Limits
+pub mod Keeping
+pub mod Starting
+pub mod Following

@@ -60,15 +60,18 @@ mem_looked ports (m ∷ ms) base rest h each zero list at = let e : [] ≡ list 
 mem_looked ports (m ∷ ms) base rest h each (suc zero) list at =
     let e : base ∷ [] ≡ list = cc in
     let zeroth : base + 0 ≡ base = omega arith in
-    subst (Each (λ k. Looks ports (base + suc zero) k)) e (record {
-      input = input (mem_name m (codes "rd")) m.width;
-      output = output (mem_name m (codes "ra")) m.address;
-      at_input = h 1 (input (mem_name m (codes "rd")) m.width) refl;
-      at_output = subst (λ n. slice_get ports n ≡ Some (output (mem_name m (codes "ra")) m.address)) zeroth (h 0 (output (mem_name m (codes "ra")) m.address) refl);
-      enters = refl;
-      leaves = refl;
-      asked = asks_memory m.name (each.0).named;
-    }, tt)
+    subst (Each (λ k. Looks ports (base + suc zero) k)) e (
+      record {
+        input = input (mem_name m (codes "rd")) m.width;
+        output = output (mem_name m (codes "ra")) m.address;
+        at_input = h 1 (input (mem_name m (codes "rd")) m.width) refl;
+        at_output = subst (λ n. slice_get ports n ≡ Some (output (mem_name m (codes "ra")) m.address)) zeroth (h 0 (output (mem_name m (codes "ra")) m.address) refl);
+        enters = refl;
+        leaves = refl;
+        asked = asks_memory m.name (each.0).named;
+      },
+      tt,
+    )
 mem_looked ports (m ∷ ms) base rest h each (suc (suc zero)) list at = let e : [] ≡ list = cc in subst (Each (λ k. Looks ports (base + suc (suc zero)) k)) e tt
 mem_looked ports (m ∷ ms) base rest h each (suc (suc (suc zero))) list at = let e : [] ≡ list = cc in subst (Each (λ k. Looks ports (base + suc (suc (suc zero))) k)) e tt
 mem_looked ports (m ∷ ms) base rest h each (suc (suc (suc (suc zero)))) list at = let e : [] ≡ list = cc in subst (Each (λ k. Looks ports (base + suc (suc (suc (suc zero)))) k)) e tt

@@ -96,7 +96,7 @@ writes_long labels shown small n (s ∷ spots) le =
         → (b : Bool) → length (flat_map (write_text labels) (if b then write_of shown n s ∷ writes_by shown (n + 1) spots else writes_by shown (n + 1) spots)) ≤ sum_by added (drop n labels)
     pick more next true =
         let a : length (write_text labels (write_of shown n s) ++ flat_map (write_text labels) (writes_by shown (n + 1) spots)) ≡ length (write_text labels (write_of shown n s)) + length (flat_map (write_text labels) (writes_by shown (n + 1) spots)) =
-            long_both (write_text labels (write_of shown n s)) (flat_map (write_text labels) (writes_by shown (n + 1) spots)) in
+        long_both (write_text labels (write_of shown n s)) (flat_map (write_text labels) (writes_by shown (n + 1) spots)) in
         let w : length (write_text labels (write_of shown n s)) ≤ length (label_of labels n) + 44 = write_long labels shown small n s in
         omega arith
     pick more next false = omega arith

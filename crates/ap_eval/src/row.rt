@@ -133,11 +133,7 @@ impl<'a> RowView<'a> {
 }
 
 /// The label of a write group.
-fn group_label(
-    alloc: Global,
-    storage: &str,
-    file: &Option<FilePort>,
-) -> Result<String, NoMemory>
+fn group_label(alloc: Global, storage: &str, file: &Option<FilePort>) -> Result<String, NoMemory>
     ensures { IfOk result (λ label. string_bytes label ≡ group_label storage.now file.now) }
 {
     let label = match file {

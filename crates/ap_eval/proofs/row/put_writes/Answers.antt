@@ -21,11 +21,11 @@ returns-in_err-put_write-clause-succeeds c fits =
     let more : vec_capacity c.args.out.now ≤ vec_capacity c.loop-group.out = c.loop-group.invariant.capacity in
     let room_all : length c.args.out.now.items + length all ≤ vec_capacity c.loop-group.out = omega arith in
     let room : length c.loop-group.out.items + length text ≤ vec_capacity c.loop-group.out =
-        room_next c.args.out.now.items c.loop-group.out.items text (flat_map (write_text labels) (writes_by shown (c.loop-group.group + 1) (drop (suc c.loop-group.group) c.args.spots.now)))
-            (flat_map (write_text labels) (writes_by shown c.loop-group.group (drop c.loop-group.group c.args.spots.now))) all (vec_capacity c.loop-group.out) c.loop-group.invariant.text first room_all in
+    room_next c.args.out.now.items c.loop-group.out.items text (flat_map (write_text labels) (writes_by shown (c.loop-group.group + 1) (drop (suc c.loop-group.group) c.args.spots.now)))
+    (flat_map (write_text labels) (writes_by shown c.loop-group.group (drop c.loop-group.group c.args.spots.now))) all (vec_capacity c.loop-group.out) c.loop-group.invariant.text first room_all in
     let same : length (labelled c.label_at.result.now c.in-Some.write.index c.in-Some.write.value) ≡ length text =
-        ap (λ (l : List ℕ). length (labelled l c.in-Some.write.index c.in-Some.write.value)) c.label_at.ensures
-        ∙ ap (λ (v : WriteView). length (labelled (label_of labels c.loop-group.group) v.index v.value)) c.in-Some.ensures.some.1 in
+    ap (λ (l : List ℕ). length (labelled l c.in-Some.write.index c.in-Some.write.value)) c.label_at.ensures
+    ∙ ap (λ (v : WriteView). length (labelled (label_of labels c.loop-group.group) v.index v.value)) c.in-Some.ensures.some.1 in
     let now : vec_len c.loop-group.out ≡ length c.loop-group.out.items = c.loop-group.out.ok.0 in
     let next : vec_len c.loop-group.out + length (labelled c.label_at.result.now c.in-Some.write.index c.in-Some.write.value) ≤ vec_capacity c.loop-group.out = omega arith in
     absurd (true≢false (sym (c.in_err-put_write.ensures.succeeds next)))
