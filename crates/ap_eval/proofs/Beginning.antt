@@ -1,13 +1,12 @@
 -- Before the operations of a cycle the nets that have none have their values in the cycle's solution, and memories answer.
-use Rattle.std.proofs.Common.{◌≡◌, ◌≢◌, ℕ, zero, suc, ◌+◌, ◌-◌, ◌*◌, ◌<◌, ◌≤◌, ◌^◌, ◌⊎◌, inl, inr, List, [], ◌∷◌, ◌++◌, length, map, Option, Some, None, Bool, true, false, refl, sym, ap, subst, ◌∙◌, arith, set}
+use Rattle.std.proofs.Common.{◌≡◌, ◌≢◌, ℕ, zero, suc, ◌+◌, ◌-◌, ◌*◌, ◌<◌, ◌≤◌, ◌⊎◌, inl, inr, List, [], ◌∷◌, ◌++◌, length, map, Option, Some, None, Bool, true, false, refl, sym, ap, subst, ◌∙◌, arith, set}
 use Rattle.std.specs.Prelude.{codes, slice_get, slice_index, unwrap_or, option_map, if◌then◌else◌}
 use Rattle.std.specs.List.{AllByRecursion as Each}
 use Rattle.std.proofs.lemmas.Bool.{cases_lt}
 use Rattle.std.proofs.lemmas.List.{get_or-set_same, get_or-set_other, length-set, length-map}
 use Rattle.std.proofs.lemmas.Option.{slice_get-map, slice_get_within}
 use Rattle.ap_image.specs.declared.trace.TraceLine.{TraceLine}
-use Rattle.ap_image.specs.declared.shape.MemShape.{MemShape}
-use Rattle.ap_image.specs.FitsShape.{LineFitsShape, ValuesFit, MemsFit}
+use Rattle.ap_image.specs.FitsShape.{LineFitsShape, ValuesFit}
 use Rattle.ap_net.specs.declared.cell.Cell.{Cell}
 use Rattle.ap_net.specs.declared.cell.Cell.TheVariants as cell
 use Rattle.ap_net.specs.declared.net.Assign.{Assign}
@@ -16,7 +15,7 @@ use Rattle.ap_net.specs.declared.net.FlatNet.{FlatNet}
 use Rattle.ap_net.specs.declared.net.Port.{Port}
 use Rattle.ap_net.specs.declared.net.Role.{Role}
 use Rattle.ap_net.specs.declared.net.Role.TheVariants as role
-use Rattle.ap_net.specs.Wiring.{IsFree, IsSource, Undriven}
+use Rattle.ap_net.specs.Wiring.{IsFree, IsSource}
 use Rattle.ap_net.specs.Modules.{port_net}
 use Rattle.ap_net.specs.Flat.{Solves, equations, plain_net, plain_nets, top_net}
 use Rattle.ap_net.specs.Outside.{Outside, InPort, Group, FilePort, input, input_name, output, input_ports, mem_ports, group_ports, group_name, index_port, mem_name, ports_of, shape_of}
@@ -26,8 +25,6 @@ use Rattle.ap_net.specs.Sources.{Takes}
 use Rattle.ap_net.specs.Answering.{first_mem_port, mem_gives, mem_looks, port_looks}
 use Rattle.ap_net.proofs.Lists.{All-at, Each-at, get_left, get_right, get_either, some_same}
 use Rattle.ap_net.proofs.Answered.{behind, ports_split, taken_at}
-use Rattle.ap_net.proofs.Fits.{length-plain}
-use Rattle.ap_flat.specs.Drivers.{Drives}
 use Rattle.ap_flat.specs.Flats.{FlatParts, IsFlattened}
 use Rattle.ap_flat.specs.declared.driver.Driver.{Driver}
 use Rattle.ap_flat.specs.declared.driver.Driver.TheVariants as driver
@@ -36,7 +33,7 @@ use Rattle.ap_eval.specs.Cells.{Cells, first_words, other_words, words_of, word_
 use Rattle.ap_eval.specs.Ops.{AreRoots, load_of, memory_at, computed, ops_of, net_shape, driver_shape, cell_shape, put_from, shape_of_net, width_of, with_inputs}
 use Rattle.ap_eval.specs.BenchViews.{IsReady, net_state}
 use Rattle.ap_eval.proofs.Ordering.{looked, looks_below, rank}
-use Rattle.ap_eval.proofs.Going.{given, gives, take, not_given, no_register, port_at, whole_port}
+use Rattle.ap_eval.proofs.Going.{given, gives, take, not_given, no_register, whole_port}
 use Rattle.ap_eval.proofs.Computing.{AllAnswer, Answers, all_computed, Done, driver_at, equation, holds, memory_of, operand_lower, stands_low}
 use Rattle.ap_eval.proofs.MemoryPorts.{IsData, gives_word, input_is_second, looks_first, memory_found, memory_port, mems_long, second, second_is, second_port}
 

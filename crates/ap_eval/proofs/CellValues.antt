@@ -1,6 +1,6 @@
 -- An operation gives the value of the cell that it is made of, where the values that it reads are those of a solution.
-use Rattle.std.proofs.Common.{◌≡◌, ℕ, ◌+◌, ◌-◌, ◌*◌, ◌/◌, ◌%◌, ◌^◌, ◌<◌, ◌≤◌, List, [], ◌∷◌, Some, Bool, true, false, refl, sym, ap, subst, ◌∙◌, arith}
-use Rattle.std.specs.Prelude.{slice_index, ◌==◌, if◌then◌else◌, nat_lt, bit_and, bit_or, bit_xor}
+use Rattle.std.proofs.Common.{◌≡◌, ℕ, ◌+◌, ◌-◌, ◌*◌, ◌/◌, ◌%◌, ◌^◌, ◌<◌, ◌≤◌, List, Some, refl, sym, ap, subst, ◌∙◌, arith}
+use Rattle.std.specs.Prelude.{slice_index, ◌==◌, if◌then◌else◌, bit_and, bit_or}
 use Rattle.std.specs.List.{AllByRecursion as Each}
 use Rattle.std.proofs.lemmas.Nat.{or_shifted, and_mask, pow_pos, pow-add}
 use Rattle.std.proofs.Math.Nat.{mod-eq_of_lt}

@@ -1,5 +1,5 @@
 -- The operations of a plan, one after another, give each net its value in a solution.
-use Rattle.std.proofs.Common.{◌≡◌, ◌≢◌, ℕ, zero, suc, ◌+◌, ◌-◌, ◌<◌, ◌≤◌, ◌^◌, ◌⊎◌, inl, inr, List, [], ◌∷◌, ◌++◌, length, map, Option, Some, None, refl, sym, ap, subst, ◌∙◌, arith, set}
+use Rattle.std.proofs.Common.{◌≡◌, ℕ, zero, suc, ◌+◌, ◌-◌, ◌<◌, ◌≤◌, ◌⊎◌, inl, inr, List, [], ◌∷◌, ◌++◌, length, Option, Some, None, refl, sym, ap, subst, ◌∙◌, arith, set}
 use Rattle.std.specs.Prelude.{slice_get, slice_index}
 use Rattle.std.specs.List.{AllByRecursion as Each}
 use Rattle.std.proofs.lemmas.Bool.{cases_lt}
@@ -13,14 +13,11 @@ use Rattle.ap_net.specs.declared.net.ModuleNet.{ModuleNet}
 use Rattle.ap_net.specs.declared.net.FlatNet.{FlatNet}
 use Rattle.ap_net.specs.Cells.{cell_value, operands, widths_of, CellFits, IsNet}
 use Rattle.ap_net.specs.Wiring.{Holds}
-use Rattle.ap_net.specs.Outside.{ports_of}
-use Rattle.ap_net.specs.Flat.{Solves, equations, plain_nets, plain_net}
+use Rattle.ap_net.specs.Flat.{Solves, equations, plain_nets}
 use Rattle.ap_net.specs.Answering.{first_mem_port}
 use Rattle.ap_net.proofs.Lists.{All-at, Each-at, some_same}
 use Rattle.ap_net.proofs.Wired.{number-IsNet, operands-CellFits}
-use Rattle.ap_net.proofs.Parts.{net_of_width}
 use Rattle.ap_net.proofs.Fits.{length-plain}
-use Rattle.ap_flat.specs.Dependence.{DependsOn}
 use Rattle.ap_flat.specs.Drivers.{Drives}
 use Rattle.ap_flat.specs.Flats.{FlatParts, IsFlattened}
 use Rattle.ap_flat.specs.declared.driver.Driver.{Driver}

@@ -1,11 +1,10 @@
 -- What a bench holds after the edge of a cycle, and the row that the cycle shows.
-use Rattle.std.proofs.Common.{◌≡◌, ◌≢◌, ℕ, zero, suc, ◌+◌, ◌-◌, ◌*◌, ◌<◌, ◌≤◌, ◌^◌, ◌⊎◌, ◌==◌, inl, inr, List, [], ◌∷◌, ◌++◌, length, map, Option, Some, None, Bool, true, false, refl, sym, ap, subst, ◌∙◌, arith, set, eq-eqb}
-use Rattle.std.specs.Prelude.{codes, slice_get, slice_index, option_map, if◌then◌else◌}
+use Rattle.std.proofs.Common.{◌≡◌, ◌≢◌, ℕ, suc, ◌+◌, ◌*◌, ◌<◌, ◌≤◌, ◌⊎◌, ◌==◌, inl, inr, List, [], ◌∷◌, ◌++◌, length, map, Option, Some, None, Bool, true, false, refl, sym, ap, subst, ◌∙◌, arith, set, eq-eqb}
+use Rattle.std.specs.Prelude.{codes, slice_index, if◌then◌else◌}
 use Rattle.std.specs.List.{AllByRecursion as Each}
-use Rattle.std.proofs.lemmas.List.{get_or-set_same, get_or-set_other, length-set, length-map}
+use Rattle.std.proofs.lemmas.List.{get_or-set_same, get_or-set_other, length-set}
 use Rattle.std.proofs.lemmas.Bool.Decides.{Decides-eqb}
 use Rattle.ap_image.specs.declared.row.Write.{Write}
-use Rattle.ap_image.specs.declared.row.Row.{Row}
 use Rattle.ap_image.specs.declared.shape.MemShape.{MemShape}
 use Rattle.ap_image.specs.FitsShape.{MemsFit}
 use Rattle.ap_image.specs.Words.{with_word}
@@ -14,7 +13,7 @@ use Rattle.ap_net.specs.declared.net.Next.{Next}
 use Rattle.ap_net.specs.declared.net.Port.{Port}
 use Rattle.ap_net.specs.Wiring.{ClockedOnce, Unclocked}
 use Rattle.ap_net.specs.Registers.{held}
-use Rattle.ap_net.specs.Runs.{mem_after, mems_after}
+use Rattle.ap_net.specs.Runs.{mems_after}
 use Rattle.ap_net.specs.Rows.{group_writes, index_of, mem_writes}
 use Rattle.ap_net.specs.Flat.{value_named}
 use Rattle.ap_net.specs.Outside.{FilePort, Group, group_name, group_ports, index_port, mem_name, mem_ports, output}
@@ -22,8 +21,8 @@ use Rattle.ap_net.proofs.Answered.{PortsNamed}
 use Rattle.ap_eval.specs.declared.op.Op.{Op}
 use Rattle.ap_eval.specs.declared.spot.Spot.{Spot}
 use Rattle.ap_eval.specs.Cells.{Cells, rooms_of, words_of}
-use Rattle.ap_eval.specs.Ops.{cells_after, computed, data_after, give_all, shape_value}
-use Rattle.ap_eval.specs.Spots.{group_ports_count, group_size, group_spot, group_spots, index_at, mem_spots, writes_by}
+use Rattle.ap_eval.specs.Ops.{computed, data_after, give_all, shape_value}
+use Rattle.ap_eval.specs.Spots.{group_ports_count, group_size, group_spot, group_spots, mem_spots, writes_by}
 
 pub computed-length : (load : ℕ → ℕ → ℕ) (ops : List Op) (values : List ℕ) → length (computed load ops values) ≡ length values
 computed-length load [] values = refl

@@ -1,15 +1,11 @@
 -- What a step's functions need of the plan and of the values: reads are declared, and addresses are of their memories.
-use Rattle.std.proofs.Common.{◌≡◌, ℕ, zero, suc, ◌+◌, ◌-◌, ◌*◌, ◌<◌, ◌≤◌, ◌^◌, ◌⊎◌, inl, inr, List, [], ◌∷◌, ◌++◌, length, map, get_or, Option, Some, None, refl, sym, ap, subst, ◌∙◌, arith}
-use Rattle.std.specs.Prelude.{slice_get, slice_index, codes}
+use Rattle.std.proofs.Common.{◌≡◌, ℕ, suc, ◌+◌, ◌-◌, ◌<◌, ◌≤◌, ◌⊎◌, inl, inr, List, [], ◌∷◌, length, Option, Some, None, refl, sym, ap, subst, ◌∙◌, arith}
+use Rattle.std.specs.Prelude.{slice_get, slice_index}
 use Rattle.std.specs.List.{AllByRecursion as Each}
-use Rattle.std.proofs.lemmas.List.{length-map}
-use Rattle.ap_image.specs.declared.shape.MemShape.{MemShape}
 use Rattle.ap_net.specs.declared.cell.Cell.{Cell}
 use Rattle.ap_net.specs.declared.cell.Cell.TheVariants as cell
 use Rattle.ap_net.specs.declared.cell.TwoOp.{TwoOp}
 use Rattle.ap_net.specs.declared.cell.TwoOp.TheVariants as two
-use Rattle.ap_net.specs.declared.net.Next.{Next}
-use Rattle.ap_net.specs.Outside.{Outside}
 use Rattle.ap_net.specs.Answering.{first_mem_port}
 use Rattle.ap_net.specs.Cells.{CellFits}
 use Rattle.ap_net.specs.Flat.{plain_nets}
@@ -17,9 +13,7 @@ use Rattle.ap_net.proofs.Lists.{All-join, Each-at}
 use Rattle.ap_flat.specs.Flats.{FlatParts, IsFlattened}
 use Rattle.ap_flat.specs.declared.driver.Driver.{Driver}
 use Rattle.ap_flat.specs.declared.driver.Driver.TheVariants as driver
-use Rattle.ap_eval.specs.declared.op.Op.{Op}
 use Rattle.ap_eval.specs.declared.op.Shape.{Shape}
-use Rattle.ap_eval.specs.declared.op.Shape.TheVariants as shape
 use Rattle.ap_eval.specs.Ops.{AreRoots, CellReads, IsWithin, OpFits, ShapeFits, cell_shape, driver_shape, mask_of, memory_at, net_shape, op_list, ops_of, shape_of_net, two_shape, width_of}
 use Rattle.ap_eval.proofs.Computing.{width_is, cell_fits, cell_reads, equation, operand_lower, stands_low}
 use Rattle.ap_eval.proofs.MemoryPorts.{IsData, memory_port}

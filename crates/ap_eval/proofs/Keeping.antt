@@ -1,12 +1,10 @@
 -- A bench's order: the nets of a netlist's order that are kept, in the same order.
-use Rattle.std.proofs.Common.{◌≡◌, ℕ, zero, suc, ◌+◌, ◌<◌, ◌≤◌, ◌⊎◌, inl, inr, List, [], ◌∷◌, ◌++◌, length, Option, Some, None, refl, sym, ap, subst, ◌∙◌, arith, ⊎_elim}
+use Rattle.std.proofs.Common.{◌≡◌, ℕ, zero, suc, ◌+◌, ◌<◌, ◌≤◌, ◌⊎◌, inl, inr, List, [], ◌∷◌, ◌++◌, length, Some, refl, sym, ap, subst, ◌∙◌, arith, ⊎_elim}
 use Rattle.std.specs.Prelude.{slice_get}
 use Rattle.std.proofs.lemmas.Bool.{cases_lt, cases_order}
 use Rattle.std.proofs.lemmas.Option.{slice_get_within}
 use Rattle.ap_net.specs.declared.net.FlatNet.{FlatNet}
-use Rattle.ap_net.specs.Outside.{ports_of}
 use Rattle.ap_net.proofs.Lists.{get_either, get_end, get_left, some_same}
-use Rattle.ap_flat.specs.Dependence.{DependsOn}
 use Rattle.ap_flat.specs.Flats.{FlatParts, IsFlattened}
 use Rattle.ap_eval.specs.Benches.{IsBenchOrder, IsGiven, IsGivenBy}
 use Rattle.ap_eval.proofs.Ordering.{net_at_rank, rank, rank_below}

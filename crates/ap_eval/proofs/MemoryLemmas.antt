@@ -1,8 +1,8 @@
 -- The words of a memory that were given or written.
-use Rattle.std.proofs.Common.{◌≡◌, ℕ, zero, suc, ◌+◌, ◌<◌, ◌≤◌, List, [], ◌∷◌, length, take, refl, sym, ap, subst, ◌∙◌, arith, set, inl, inr, ⊎_elim}
+use Rattle.std.proofs.Common.{◌≡◌, ℕ, zero, suc, ◌+◌, ◌<◌, ◌≤◌, List, [], ◌∷◌, length, take, refl, sym, ap, ◌∙◌, arith, set, ⊎_elim}
 use Rattle.std.specs.Prelude.{slice_index}
 use Rattle.std.proofs.lemmas.Bool.{cases_lt}
-use Rattle.std.proofs.lemmas.List.{get_or-take, get_or_past, get_or-set_other, length-set}
+use Rattle.std.proofs.lemmas.List.{get_or-take, get_or-set_other, length-set}
 use Rattle.ap_image.specs.Words.{with_word}
 use Rattle.ap_eval.specs.Cells.{IsMemory}
 

@@ -1,18 +1,17 @@
 -- The order of a netlist's nets as ranks that rise along all dependences.
-use Rattle.std.proofs.Common.{◌≡◌, ℕ, zero, suc, ◌+◌, ◌<◌, ◌≤◌, ◌⊎◌, inl, inr, List, [], ◌∷◌, ◌++◌, length, map, Some, false, true, refl, sym, ap, subst, ◌∙◌, arith}
+use Rattle.std.proofs.Common.{◌≡◌, ℕ, zero, suc, ◌+◌, ◌<◌, ◌≤◌, ◌⊎◌, inl, inr, List, [], ◌∷◌, ◌++◌, length, map, Some, refl, ap, subst, ◌∙◌, arith}
 use Rattle.std.specs.Prelude.{codes, slice_get}
 use Rattle.std.specs.List.{AllByRecursion as Each}
 use Rattle.std.proofs.lemmas.Bool.{cases_lt}
-use Rattle.std.proofs.lemmas.Option.{slice_get_within}
 use Rattle.ap_image.specs.declared.shape.MemShape.{MemShape}
 use Rattle.ap_net.specs.declared.cell.Wire.{Wire}
 use Rattle.ap_net.specs.declared.net.Assign.{Assign}
 use Rattle.ap_net.specs.declared.net.Port.{Port}
 use Rattle.ap_net.specs.Cells.{IsNet, operands}
 use Rattle.ap_net.specs.Wiring.{Ranked}
-use Rattle.ap_net.specs.Flat.{Flat, equations, plain_nets}
+use Rattle.ap_net.specs.Flat.{equations, plain_nets}
 use Rattle.ap_net.specs.Outside.{Outside, InPort, input, output, mem_name, input_ports, mem_ports, ports_of}
-use Rattle.ap_net.specs.Answering.{first_mem_port, mem_looks, port_looks, address_port}
+use Rattle.ap_net.specs.Answering.{mem_looks, port_looks}
 use Rattle.ap_net.proofs.Lists.{Each-at, All-at}
 use Rattle.ap_net.proofs.Wired.{number-IsNet}
 use Rattle.ap_net.proofs.Fits.{length-plain}

@@ -1,5 +1,5 @@
 -- The state of a bench after the reset edge.
-use Rattle.std.proofs.Common.{◌≡◌, ◌≢◌, ℕ, zero, suc, ◌+◌, ◌^◌, ◌<◌, ◌≤◌, ◌⊎◌, inl, inr, List, [], ◌∷◌, ◌++◌, length, map, take, get_or, Option, Some, refl, sym, ap, subst, ◌∙◌, arith}
+use Rattle.std.proofs.Common.{◌≡◌, ◌≢◌, ℕ, zero, suc, ◌+◌, ◌^◌, ◌<◌, ◌⊎◌, inl, inr, List, [], ◌∷◌, ◌++◌, length, map, take, get_or, Some, sym, ap, subst, ◌∙◌, arith}
 use Rattle.std.specs.Prelude.{slice_get, slice_index, option_map}
 use Rattle.std.specs.List.{AllByRecursion as Each}
 use Rattle.std.proofs.lemmas.List.{length-map, map_push, take_more}
@@ -16,11 +16,11 @@ use Rattle.ap_net.specs.declared.net.Role.TheVariants as role
 use Rattle.ap_net.specs.Wiring.{IsSource, NextFits, Unclocked}
 use Rattle.ap_net.specs.Flat.{plain_nets, reset_in}
 use Rattle.ap_net.specs.Outside.{shape_of}
-use Rattle.ap_net.specs.Registers.{held, RegistersFit}
-use Rattle.ap_net.specs.Runs.{NetState, reset_state}
+use Rattle.ap_net.specs.Registers.{held}
+use Rattle.ap_net.specs.Runs.{reset_state}
 use Rattle.ap_net.specs.Answering.{StateFits}
 use Rattle.ap_net.proofs.Fits.{length-plain}
-use Rattle.ap_net.proofs.Lists.{All-from, some_same}
+use Rattle.ap_net.proofs.Lists.{All-from}
 use Rattle.ap_net.proofs.Parts.{net_of_width}
 use Rattle.ap_net.proofs.Registers.{reset_fit}
 use Rattle.ap_net.proofs.Wired.{number-IsNet}
@@ -28,10 +28,10 @@ use Rattle.ap_flat.specs.Flats.{FlatParts, IsFlattened}
 use Rattle.ap_flat.specs.declared.driver.Driver.{Driver}
 use Rattle.ap_flat.specs.declared.driver.Driver.TheVariants as driver
 use Rattle.ap_eval.specs.declared.spot.Spot.{Spot}
-use Rattle.ap_eval.specs.Benches.{BenchState, started}
+use Rattle.ap_eval.specs.Benches.{started}
 use Rattle.ap_eval.specs.BenchViews.{IsReady, bench_state, net_state, rooms_by}
 use Rattle.ap_eval.specs.Cells.{Cells, first_words, other_words, rooms_of, words_of}
-use Rattle.ap_eval.specs.Ops.{constant_of, first_values, give_all}
+use Rattle.ap_eval.specs.Ops.{constant_of, first_values}
 use Rattle.ap_eval.proofs.Beginning.{source_free}
 use Rattle.ap_eval.proofs.Edge.{give_all-length, give_all-other, give_all-registers, held_read}
 use Rattle.ap_eval.proofs.Limits.{nothing_row}

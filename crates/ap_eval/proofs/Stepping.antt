@@ -4,7 +4,6 @@ use Rattle.std.specs.Prelude.{codes, slice_get, slice_index, option_map}
 use Rattle.std.specs.List.{AllByRecursion as Each}
 use Rattle.std.proofs.lemmas.List.{length-append, length-map}
 use Rattle.std.proofs.lemmas.Option.{slice_get-map, slice_get_within}
-use Rattle.ap_image.specs.declared.row.Row.{Row}
 use Rattle.ap_image.specs.declared.trace.TraceLine.{TraceLine}
 use Rattle.ap_image.specs.declared.shape.MemShape.{MemShape}
 use Rattle.ap_image.specs.FitsShape.{LineFitsShape, MemsFit, WordsFit}
@@ -15,17 +14,16 @@ use Rattle.ap_net.specs.declared.net.FlatNet.{FlatNet}
 use Rattle.ap_net.specs.declared.net.Next.{Next}
 use Rattle.ap_net.specs.declared.net.Port.{Port}
 use Rattle.ap_net.specs.declared.net.Role.TheVariants as role
-use Rattle.ap_net.specs.Cells.{IsNet}
-use Rattle.ap_net.specs.Wiring.{IsSource, NextFits, Unclocked, reset_of}
+use Rattle.ap_net.specs.Wiring.{IsSource, NextFits, Unclocked}
 use Rattle.ap_net.specs.Modules.{port_net}
 use Rattle.ap_net.specs.Flat.{Solves, plain_net, plain_nets, top_net, value_named}
 use Rattle.ap_net.specs.Outside.{Outside, FilePort, Group, InPort, group_ports, group_name, index_port, input_ports, mem_ports, output, ports_of, shape_of}
-use Rattle.ap_net.specs.Registers.{held, RegistersFit}
+use Rattle.ap_net.specs.Registers.{held}
 use Rattle.ap_net.specs.Rows.{shown_row, group_writes}
 use Rattle.ap_net.specs.Runs.{NetState, Cycle, mems_after}
 use Rattle.ap_net.specs.Sources.{Takes}
 use Rattle.ap_net.specs.Answering.{first_mem_port, StateFits}
-use Rattle.ap_net.proofs.Lists.{All-at, All-from, some_same}
+use Rattle.ap_net.proofs.Lists.{All-from}
 use Rattle.ap_net.proofs.Parts.{net_of_width}
 use Rattle.ap_net.proofs.Wired.{number-IsNet}
 use Rattle.ap_net.proofs.Fits.{length-plain}
@@ -33,14 +31,14 @@ use Rattle.ap_net.proofs.Answered.{PortsNamed, behind, named_behind, ports_split
 use Rattle.ap_flat.specs.Flats.{FlatParts, IsFlattened}
 use Rattle.ap_flat.specs.declared.driver.Driver.TheVariants as driver
 use Rattle.ap_eval.specs.declared.spot.Spot.{Spot}
-use Rattle.ap_eval.specs.Benches.{BenchState, Steps}
+use Rattle.ap_eval.specs.Benches.{Steps}
 use Rattle.ap_eval.specs.BenchViews.{IsReady, bench_state, net_state}
 use Rattle.ap_eval.specs.Cells.{Cells, first_words, other_words, rooms_of, words_of}
-use Rattle.ap_eval.specs.Ops.{AreRoots, computed, data_after, give_all, load_of, memories_after, ops_of, with_inputs}
-use Rattle.ap_eval.specs.Spots.{group_ports_count, group_size, group_spots, mem_spots, port_count_of, row_by, spots_of, stall_port, writes_by}
+use Rattle.ap_eval.specs.Ops.{AreRoots, computed, give_all, load_of, memories_after, ops_of, with_inputs}
+use Rattle.ap_eval.specs.Spots.{group_ports_count, group_size, mem_spots, port_count_of, row_by, spots_of, stall_port, writes_by}
 use Rattle.ap_eval.proofs.Going.{cycle_on, fits_on, given, new, rest_named, small, solution}
 use Rattle.ap_eval.proofs.Computing.{equation, holds}
-use Rattle.ap_eval.proofs.Beginning.{begun_long, computed_all, port_count, register_was, source_free, source_root}
+use Rattle.ap_eval.proofs.Beginning.{begun_long, computed_all, register_was, source_free, source_root}
 use Rattle.ap_eval.proofs.Edge.{computed-length, data_after-rooms, data_after-words, give_all-length, give_all-other, give_all-registers, group_spots-writes, held_read, mem_spots-writes, named_past_mems}
 
 input_ports-length : (ps : List InPort) → length (input_ports ps) ≡ length ps

@@ -1,5 +1,5 @@
 -- What contracts see of a bench, and what it keeps.
-use Rattle.std.specs.Prelude.{◌≡◌, ℕ, ◌+◌, ◌^◌, ◌<◌, List, [], ◌∷◌, length, map, slice_get, slice_index, Some}
+use Rattle.std.specs.Prelude.{◌≡◌, ℕ, ◌^◌, ◌<◌, List, ◌∷◌, length, map, slice_get, slice_index, Some}
 use Rattle.ap_image.specs.declared.shape.MemShape.{MemShape}
 use Rattle.ap_image.specs.FitsShape.{LineFitsShape, WordsFit}
 use Rattle.ap_net.specs.declared.net.Next.{Next}

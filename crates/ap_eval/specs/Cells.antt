@@ -1,5 +1,5 @@
 -- A memory of a bench: how many words it has, and those that were given or written.
-use Rattle.std.specs.Prelude.{◌≡◌, ℕ, ◌≤◌, List, [], ◌∷◌, length, take, drop, replicate, slice_get, slice_index, Option, None, Some, map}
+use Rattle.std.specs.Prelude.{◌≡◌, ℕ, ◌≤◌, List, [], ◌∷◌, length, take, slice_index, Option, None, Some, map}
 
 pub record Cells : Type 0 where
   pub room : ℕ

@@ -1,12 +1,10 @@
 -- What an operation on the values of nets gives, and which operations compute an opened netlist.
-use Rattle.std.specs.Prelude.{◌≡◌, ℕ, ◌+◌, ◌-◌, ◌*◌, ◌/◌, ◌%◌, ◌^◌, ◌<◌, ◌≤◌, ◌==◌, ◌&&◌, nat_lt, nat_le, List, [], ◌∷◌, ◌++◌, length, bit_and, bit_or, bit_xor, Option, Some, None, option_map, map, slice_get, slice_index, set, if◌then◌else◌}
-use Rattle.ap_net.specs.declared.cell.Wire.{Wire}
+use Rattle.std.specs.Prelude.{◌≡◌, ℕ, ◌+◌, ◌-◌, ◌*◌, ◌/◌, ◌%◌, ◌^◌, ◌<◌, ◌≤◌, ◌==◌, ◌&&◌, nat_lt, nat_le, List, [], ◌∷◌, ◌++◌, length, bit_and, bit_or, bit_xor, Option, Some, None, map, slice_get, slice_index, set, if◌then◌else◌}
 use Rattle.ap_net.specs.declared.cell.TwoOp.{TwoOp}
 use Rattle.ap_net.specs.declared.cell.TwoOp.TheVariants as two
 use Rattle.ap_net.specs.declared.cell.Cell.{Cell}
 use Rattle.ap_net.specs.declared.cell.Cell.TheVariants as cell
 use Rattle.ap_net.specs.declared.net.FlatNet.{FlatNet}
-use Rattle.ap_net.specs.Outside.{Outside}
 use Rattle.ap_net.specs.Answering.{first_mem_port}
 use Rattle.ap_net.specs.Flat.{reset_in}
 use Rattle.ap_flat.specs.Flats.{FlatParts}

@@ -1,5 +1,5 @@
 -- The row that the values of ports show, where spots say which ports are whose.
-use Rattle.std.specs.Prelude.{ℕ, suc, ◌+◌, ◌*◌, ◌==◌, ◌++◌, List, [], ◌∷◌, length, Option, None, Some, slice_index, if◌then◌else◌}
+use Rattle.std.specs.Prelude.{ℕ, ◌+◌, ◌*◌, ◌==◌, ◌++◌, List, [], ◌∷◌, length, Option, None, Some, slice_index, if◌then◌else◌}
 use Rattle.ap_image.specs.declared.row.Row.{Row}
 use Rattle.ap_image.specs.declared.row.Write.{Write}
 use Rattle.ap_image.specs.declared.shape.MemShape.{MemShape}

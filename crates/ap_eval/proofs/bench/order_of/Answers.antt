@@ -1,4 +1,4 @@
-use Rattle.std.proofs.Common.{◌≡◌, ◌<◌, ◌≤◌, ◌∙◌, ℕ, List, length, get_or, Some, true, ap, sym, subst, arith}
+use Rattle.std.proofs.Common.{◌≡◌, ◌<◌, ◌∙◌, ℕ, List, length, get_or, Some, true, ap, sym, subst, arith}
 use Rattle.std.specs.Prelude.{slice_get, slice_index}
 use Rattle.ap_net.specs.declared.net.FlatNet.{FlatNet}
 use Rattle.ap_net.specs.Outside.{Outside}

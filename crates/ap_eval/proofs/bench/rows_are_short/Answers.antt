@@ -1,4 +1,4 @@
-use Rattle.std.proofs.Common.{◌≡◌, ◌≤◌, ℕ, List, length, ap, sym, ◌∙◌, map, string_bytes, arith}
+use Rattle.std.proofs.Common.{◌≡◌, length, map, string_bytes, arith}
 use Rattle.std.proofs.lemmas.List.{length-map}
 use Rattle.ap_eval.proofs.Texts.{row_long}
 use Rattle.ap_eval.proofs.bench.rows_are_short.Goals as goal

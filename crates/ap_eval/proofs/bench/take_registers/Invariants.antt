@@ -1,4 +1,4 @@
-use Rattle.std.proofs.Common.{◌≡◌, ◌++◌, length, map, take, drop}
+use Rattle.std.proofs.Common.{◌≡◌, length, map, take}
 use Rattle.std.specs.Prelude.{slice_index}
 use Rattle.ap_net.specs.declared.net.Next.{Next}
 use Rattle.ap_eval.proofs.bench.take_registers.Given as goal

@@ -1,7 +1,6 @@
-use Rattle.std.proofs.Common.{◌≡◌, ℕ, ◌∙◌, ap, sym, arith}
+use Rattle.std.proofs.Common.{ℕ, arith}
 use Rattle.std.specs.Prelude.{slice_index}
-use Rattle.ap_eval.specs.Cells.{Cells}
-use Rattle.ap_eval.specs.Ops.{cells_after, memories_after}
+use Rattle.ap_eval.specs.Ops.{memories_after}
 use Rattle.ap_eval.proofs.Writing.{writes_more}
 use Rattle.ap_eval.proofs.bench.write_memories.Goals as goal
 

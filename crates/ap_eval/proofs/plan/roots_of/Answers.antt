@@ -1,4 +1,4 @@
-use Rattle.std.proofs.Common.{◌≡◌, ◌<◌, ◌∙◌, length, ap, sym, arith}
+use Rattle.std.proofs.Common.{◌≡◌, ◌∙◌, length, ap, arith}
 use Rattle.ap_eval.proofs.Rooting.{all_rooted, net_low, root_more, source_more}
 use Rattle.ap_eval.proofs.plan.roots_of.Goals as goal
 

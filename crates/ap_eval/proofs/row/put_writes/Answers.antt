@@ -1,4 +1,4 @@
-use Rattle.std.proofs.Common.{◌≡◌, ◌+◌, ◌≤◌, ◌++◌, ℕ, List, length, ap, sym, ◌∙◌, map, string_bytes, drop, get_or, arith, None, suc, true≢false}
+use Rattle.std.proofs.Common.{◌≡◌, ◌+◌, ◌≤◌, ℕ, List, length, ap, sym, ◌∙◌, map, string_bytes, drop, get_or, arith, None, suc, true≢false}
 use Rattle.std.specs.List.{flat_map}
 use Rattle.std.specs.Vec.{vec_capacity, vec_len}
 use Rattle.ap_image.specs.RowTexts.{label_of, write_text}

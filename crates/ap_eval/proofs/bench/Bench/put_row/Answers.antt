@@ -2,7 +2,7 @@ use Rattle.std.proofs.Common.{◌≡◌, ◌+◌, ◌≤◌, ℕ, List, length, 
 use Rattle.std.proofs.lemmas.List.{length-map}
 use Rattle.std.specs.Vec.{vec_capacity, vec_len}
 use Rattle.ap_image.specs.RowTexts.{row_text}
-use Rattle.ap_eval.specs.Benches.{BenchState, labels_by, row_limit_of}
+use Rattle.ap_eval.specs.Benches.{BenchState, labels_by}
 use Rattle.ap_eval.specs.BenchViews.{IsShowing, bench_state}
 use Rattle.ap_eval.proofs.Limits.{rows_within}
 use Rattle.ap_eval.proofs.bench.Bench.put_row.Goals as goal

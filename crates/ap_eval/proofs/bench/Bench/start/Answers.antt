@@ -1,4 +1,4 @@
-use Rattle.std.proofs.Common.{◌≡◌, length, ap, ◌∙◌, arith}
+use Rattle.std.proofs.Common.{◌≡◌, length, ap, arith}
 use Rattle.ap_eval.proofs.Starting.{started_is, started_ready}
 use Rattle.ap_eval.proofs.bench.Bench.start.Goals as goal
 

@@ -1,4 +1,4 @@
-use Rattle.std.proofs.Common.{◌≡◌, ◌<◌, ◌≤◌, ◌∙◌, ap, length, set, arith}
+use Rattle.std.proofs.Common.{◌≡◌, ◌<◌, ◌∙◌, ap, length, arith}
 use Rattle.std.proofs.lemmas.List.{length-set}
 use Rattle.ap_image.specs.Words.{with_word}
 use Rattle.ap_eval.specs.Cells.{Cells}
