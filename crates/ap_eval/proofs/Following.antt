@@ -66,7 +66,8 @@ mems_given nets v (m ∷ ms) (words ∷ mems) n rest leave named answer (suc (su
 mems_given nets v (m ∷ ms) (words ∷ mems) n rest leave named answer (suc (suc (suc (suc (suc i))))) p at is =
     let five : suc (suc (suc (suc (suc n)))) ≡ n + 5 = omega arith in
     let same : n + 5 + i ≡ n + suc (suc (suc (suc (suc i)))) = omega arith in
-    mems_given nets v ms mems (n + 5) rest leave (subst (λ k. PortsNamed nets v k (mem_ports ms ++ rest)) five named.1.1.1.1.1) answer.1 i p at is ∙ ap (λ k. Some (slice_index v k)) same
+    let behind_five = subst (λ k. PortsNamed nets v k (mem_ports ms ++ rest)) five named.1.1.1.1.1 in
+    mems_given nets v ms mems (n + 5) rest leave behind_five answer.1 i p at is ∙ ap (λ k. Some (slice_index v k)) same
 
 -- and at an input of the description its value
 inputs_given : (nets : List FlatNet) (v : List ℕ) (ps : List InPort) (values : List ℕ) (n : ℕ) (rest : List Port) (more : List ℕ)
@@ -82,8 +83,9 @@ inputs_given nets v (q ∷ ps) [] n rest more fits named are after i p at is = a
 inputs_given nets v (q ∷ ps) (x ∷ values) n rest more fits named are after zero p at is =
     ap Some (sym are.0 ∙ named.0 ∙ ap (slice_index v) (let e : n ≡ n + zero = omega arith in e))
 inputs_given nets v (q ∷ ps) (x ∷ values) n rest more fits named are after (suc i) p at is =
-    inputs_given nets v ps values (suc n) rest more fits.1 named.1 are.1
-    (λ j r there enters. after j r there enters ∙ ap (λ k. Some (slice_index v k)) (let e : n + suc (length ps) + j ≡ suc n + length ps + j = omega arith in e)) i p at is
+    inputs_given nets v ps values (suc n) rest more fits.1 named.1 are.1 (λ j r there enters.
+    let e : n + suc (length ps) + j ≡ suc n + length ps + j = omega arith in
+    after j r there enters ∙ ap (λ k. Some (slice_index v k)) e) i p at is
     ∙ ap (λ k. Some (slice_index v k)) (let e : suc n + i ≡ n + suc i = omega arith in e)
 
 -- the values that inputs take
@@ -98,7 +100,8 @@ inputs_fit : (nets : List FlatNet) (v : List ℕ) (ps : List InPort) (values : L
     → ValuesFit (first_of ps values) (map (λ (p : InPort). p.width) ps)
 inputs_fit nets v [] values rest small are = tt
 inputs_fit nets v (p ∷ ps) [] rest small are = absurd are
-inputs_fit nets v (p ∷ ps) (x ∷ values) rest small are = (subst (λ y. y < 2 ^ p.width) are.0 small.0, inputs_fit nets v ps values rest small.1 are.1)
+inputs_fit nets v (p ∷ ps) (x ∷ values) rest small are =
+    (subst (λ y. y < 2 ^ p.width) are.0 small.0, inputs_fit nets v ps values rest small.1 are.1)
 
 inputs_taken : (nets : List FlatNet) (v : List ℕ) (ps : List InPort) (values : List ℕ) → InputsAre nets v ps values
     → InputsAre nets v ps (first_of ps values)
@@ -183,24 +186,28 @@ module _ (f : FlatParts) (is : IsFlattened f) (code : List ℕ) (line : TraceLin
       out_of true e = cc
       out_of false e = refl
 
-      go : (slice_get (map top (ports_of o)) n ≡ Some net) ⊎ ((i : ℕ) × (n ≡ length (map top (ports_of o)) + i) × (slice_get is.ports.others i ≡ Some net)) → (p : Port) × (slice_get (ports_of o) n ≡ Some p) × (p.output ≡ false)
+      go : (slice_get (map top (ports_of o)) n ≡ Some net) ⊎ ((i : ℕ) × (n ≡ length (map top (ports_of o)) + i) × (slice_get is.ports.others i ≡ Some net))
+          → (p : Port) × (slice_get (ports_of o) n ≡ Some p) × (p.output ≡ false)
       go (inl here) = let p = unmapped top (ports_of o) n net here in (p.0, p.1, out_of (p.0).output (ap (λ (x : FlatNet). x.role) p.2 ∙ enters))
       go (inr past) = absurd (is.ports.within past.0 net past.2 enters)
 
   module _ (v : List ℕ) (new : NetState) (c : Cycle o flat code line old v new) where
     port_small : (n : ℕ) (p : Port) → slice_get (ports_of o) n ≡ Some p → value_named flat.nets v p.name < 2 ^ p.width
     port_small n p at =
-        subst (λ x. x < 2 ^ p.width) (sym (port_named f is v c.solves.long n p at)) (c.solves.settles.fits n p.width (width_at nets n (port_net p) (whole_port f is n p at)))
+        let wide = width_at nets n (port_net p) (whole_port f is n p at) in
+        subst (λ x. x < 2 ^ p.width) (sym (port_named f is v c.solves.long n p at)) (c.solves.settles.fits n p.width wide)
 
     cut_fits : LineFitsShape cut (shape_of o)
     cut_fits =
-        let all = subst (Each (λ (p : Port). value_named flat.nets v p.name < 2 ^ p.width)) (ports_split o) (Each-at (λ (p : Port). value_named flat.nets v p.name < 2 ^ p.width) (ports_of o) port_small) in
+        let IsSmall : Port → Type 0 = λ p. value_named flat.nets v p.name < 2 ^ p.width in
+        let all = subst (Each IsSmall) (ports_split o) (Each-at IsSmall (ports_of o) port_small) in
         inputs_fit flat.nets v o.inputs line.ports later all.1.1.1 c.inputs
 
     mems_have : (i : ℕ) (p : Port) → slice_get later i ≡ Some p → p.output ≡ false
         → slice_get (mem_part (slice_index v)) i ≡ Some (slice_index v (first_mem_port o + i))
     mems_have =
-        mems_given flat.nets v o.mems old.mems (first_mem_port o) (behind o) (behind_out o) (named_behind flat.nets v o.inputs 3 later (rest_named f is v c.solves.long)) c.reads
+        let named = named_behind flat.nets v o.inputs 3 later (rest_named f is v c.solves.long) in
+        mems_given flat.nets v o.mems old.mems (first_mem_port o) (behind o) (behind_out o) named c.reads
 
     rest_has : (i : ℕ) (p : Port) → slice_get rest i ≡ Some p → p.output ≡ false
         → slice_get (cut.ports ++ mem_part (slice_index v)) i ≡ Some (slice_index v (3 + i))
@@ -232,7 +239,8 @@ module _ (f : FlatParts) (is : IsFlattened f) (code : List ℕ) (line : TraceLin
             let same : port_net p.0 ≡ plain_net net = some_same (sym (whole_port f is n p.0 p.1) ∙ plain_at n net at) in
             no_register p.0 reset (ap (λ (x : ModuleNet). x.role) same ∙ is_reg)
 
-        go : (held flat.nexts (map (λ (x : Next). slice_index v x.register.number) flat.nexts) n ≡ slice_index v n) ⊎ (Unclocked flat.nexts n × ((r : List ℕ) → held flat.nexts r n ≡ 0)) → held flat.nexts old.registers n ≡ slice_index v n
+        go : (held flat.nexts (map (λ (x : Next). slice_index v x.register.number) flat.nexts) n ≡ slice_index v n)
+            ⊎ (Unclocked flat.nexts n × ((r : List ℕ) → held flat.nexts r n ≡ 0)) → held flat.nexts old.registers n ≡ slice_index v n
         go (inl e) = ap (λ r. held flat.nexts r n) (sym c.registers) ∙ e
         go (inr free) = absurd (is.clocked n net reset at is_reg free.0)
 
@@ -249,8 +257,8 @@ module _ (f : FlatParts) (is : IsFlattened f) (code : List ℕ) (line : TraceLin
   abbrev given : Given nets
   given = record {
     number = λ n read. had n read % 2 ^ bits_of (slice_get nets n);
-    fits =
-        λ n net read at source. subst (λ q. had n read % 2 ^ bits_of q < 2 ^ net.width) (sym at) (mod_below (had n read) (2 ^ net.width) (pow_pos net.width));
+    fits = λ n net read at source.
+        subst (λ q. had n read % 2 ^ bits_of q < 2 ^ net.width) (sym at) (mod_below (had n read) (2 ^ net.width) (pow_pos net.width));
   }
 
   -- it depends on nets of lower rank alone
@@ -260,15 +268,19 @@ module _ (f : FlatParts) (is : IsFlattened f) (code : List ℕ) (line : TraceLin
     ranked = ranked f is;
     looks = λ n net r s at source same.
         ap (λ q. unwrap_or q (held flat.nexts old.registers n) % 2 ^ bits_of (slice_get nets n)) (gives_agree o code cut old.mems r s fits n (λ list there.
-        All-from (λ k. Looks (ports_of o) n k) (λ k. r k ≡ s k) (λ k l. let low = looks_below f is n k l in same k (let e : length nets ≡ length flat.nets = length-plain flat.nets in let lt : k < length flat.nets = low.0 in omega arith) low.1)
-        list (looked o is.outside.mems n list there)));
+        All-from (λ k. Looks (ports_of o) n k) (λ k. r k ≡ s k) (λ k l.
+        let low = looks_below f is n k l in
+        let long : length nets ≡ length flat.nets = length-plain flat.nets in
+        let lt : k < length flat.nets = low.0 in
+        same k (omega arith) low.1) list (looked o is.outside.mems n list there)));
   }
 
   -- in each cycle sources take it
   takes : (v : List ℕ) (new : NetState) → Cycle o flat code line old v new → Takes nets given v
   takes v new c n net at source =
       let x = unmapped plain_net flat.nets n net at in
-      let has : had n (slice_index v) ≡ slice_index v n = source_has v new c n x.0 x.1 (subst (λ (y : ModuleNet). IsSource y.role) (sym x.2) source) in
+      let own : IsSource (x.0).role = subst (λ (y : ModuleNet). IsSource y.role) (sym x.2) source in
+      let has : had n (slice_index v) ≡ slice_index v n = source_has v new c n x.0 x.1 own in
       let small : slice_index v n < 2 ^ net.width = c.solves.settles.fits n net.width (width_at nets n net at) in
       sym (ap (λ y. y % 2 ^ bits_of (slice_get nets n)) has ∙ ap (λ q. slice_index v n % 2 ^ bits_of q) at ∙ mod-eq_of_lt small)
 
@@ -282,7 +294,8 @@ module _ (f : FlatParts) (is : IsFlattened f) (code : List ℕ) (line : TraceLin
   -- so two cycles are one
   pub one_cycle : (u v : List ℕ) (a b : NetState) → Cycle o flat code line old u a → Cycle o flat code line old v b → (u ≡ v) × (a ≡ b)
   one_cycle u v a b cu cv =
-      let same : u ≡ v = solved_once flat is.opened.driven given (ordered (cut_fits u a cu)) u v cu.solves cv.solves (takes u a cu) (takes v b cv) in (
+      let order = ordered (cut_fits u a cu) in
+      let same : u ≡ v = solved_once flat is.opened.driven given order u v cu.solves cv.solves (takes u a cu) (takes v b cv) in (
         same,
         after_is u a cu ∙ ap after_by same ∙ sym (after_is v b cv),
       )
@@ -290,19 +303,19 @@ module _ (f : FlatParts) (is : IsFlattened f) (code : List ℕ) (line : TraceLin
 -- A bench. -----------------------------------------------------------------------------------------------------------------
 
 pub bench_steps : StepsInRuns
-bench_steps flat is image trace c m states valuations runs lt old new stands s =
-    let o : Outside = flat.outside in
-    let line : TraceLine = line_at trace (shape_of o).inputs m in
-    let moved : Cycle flat.outside flat.net image.code line (states m) s.solution new.state =
-    subst (λ (q : NetState). Cycle flat.outside flat.net image.code line q s.solution new.state) stands.state_is
-    (subst (λ (code : List ℕ). Cycle flat.outside flat.net code line old.state s.solution new.state) stands.code_is
+bench_steps f is image trace c m states valuations runs lt old new stands s =
+    let line : TraceLine = line_at trace (shape_of f.outside).inputs m in
+    let moved : Cycle f.outside f.net image.code line (states m) s.solution new.state =
+    subst (λ (q : NetState). Cycle f.outside f.net image.code line q s.solution new.state) stands.state_is
+    (subst (λ (code : List ℕ). Cycle f.outside f.net code line old.state s.solution new.state) stands.code_is
     (subst (λ (g : FlatParts). Cycle g.outside g.net old.code line old.state s.solution new.state) stands.flat_is s.cycle)) in
-    let one = one_cycle flat is image.code line (states m) s.solution (valuations m) new.state (states (m + 1)) moved (runs.goes m lt) in
+    let one = one_cycle f is image.code line (states m) s.solution (valuations m) new.state (states (m + 1)) moved (runs.goes m lt) in
     record {
       flat_is = s.flat ∙ stands.flat_is;
       code_is = s.code ∙ stands.code_is;
       state_is = one.1;
       row_is = λ j e.
           let same : m ≡ j = omega arith in
-          s.row ∙ ap (λ (g : FlatParts). shown_row g.outside g.net s.solution) stands.flat_is ∙ ap (shown_row flat.outside flat.net) (one.0 ∙ ap valuations same);
+          s.row ∙ ap (λ (g : FlatParts). shown_row g.outside g.net s.solution) stands.flat_is
+          ∙ ap (shown_row f.outside f.net) (one.0 ∙ ap valuations same);
     }
