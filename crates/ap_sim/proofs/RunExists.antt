@@ -1,6 +1,6 @@
 -- A netlist that is opened runs on every image and trace that fit, for any number of cycles.
 use Rattle.std.proofs.Common.{ℕ, ap, subst}
-use Rattle.ap_eval.proofs.Going.{goes_on, solution}
+use Rattle.ap_eval.proofs.Going.{cycle_on, fits_on, new, solution}
 use Rattle.ap_flat.specs.Flats.{FlatParts, IsFlattened}
 use Rattle.ap_image.specs.FitsShape.{LineFitsShape, line_at}
 use Rattle.ap_image.specs.declared.trace.TraceLine.{TraceLine}
@@ -17,4 +17,9 @@ always_runs f is image trace c fits trace_fits =
     let line : TraceLine = line_at trace (shape_of f.outside).inputs j in
     let ok : LineFitsShape line (shape_of f.outside) = line_fits f.outside trace.lines j trace_fits in
     let s = solution f is image.code line old fits.code.each ok state in
-    goes_on f is image.code line old fits.code.each ok state s.0 s.1 s.2) c
+    record {
+      valuation = s.0;
+      new = new f is image.code line old fits.code.each ok state s.0 s.1 s.2;
+      cycle = cycle_on f is image.code line old fits.code.each ok state s.0 s.1 s.2;
+      fits = fits_on f is image.code line old fits.code.each ok state s.0 s.1 s.2;
+    }) c
