@@ -76,6 +76,53 @@ module top (
 endmodule
 ";
 
+/// A processor that writes what a unit of the kind `nand`, which no shelf here has, gives of 12 and the word that is fetched.
+const NAND: &str = "\
+module k_nand_8 (
+  input clk,
+  input rst,
+  input [0:0] sel,
+  input [7:0] a,
+  input [7:0] b,
+  output [7:0] y
+);
+  wire [7:0] n0;
+  wire [7:0] n1;
+  assign n0 = a & b;
+  assign n1 = ~n0;
+  assign y = n1;
+endmodule
+module top (
+  input clk,
+  input rst,
+  output [3:0] iaddr,
+  input [7:0] idata,
+  input [0:0] mwait,
+  output [0:0] stall,
+  output [0:0] kill,
+  output [0:0] w_R_e,
+  output [7:0] w_R_v
+);
+  wire [3:0] n0;
+  wire [3:0] n1;
+  wire [0:0] n2;
+  wire [7:0] n3;
+  wire [7:0] n4;
+  reg [3:0] pc;
+  assign n0 = 4'd1;
+  assign n1 = pc + n0;
+  assign n2 = 1'd0;
+  assign n3 = 8'd12;
+  assign iaddr = pc;
+  assign stall = 1'd0;
+  assign kill = 1'd0;
+  assign w_R_e = 1'd1;
+  assign w_R_v = n4;
+  always @(posedge clk) if (rst) pc <= 4'd0; else pc <= n1;
+  k_nand_8 u_N (.clk(clk), .rst(rst), .sel(n2), .a(n3), .b(idata), .y(n4));
+endmodule
+";
+
 /// A desk that holds these texts, and an older one where the rows go.
 fn desk_of(alloc: Global, netlist: &str, image: &str, trace: &str) -> Result<MemDesk, Fail> {
     let mut desk = MemDesk::new(alloc);
@@ -129,6 +176,13 @@ fn rows_of_runs(rt: HostRuntime) -> Result<(), Fail> {
             rows: "",
         },
         Run {
+            netlist: NAND,
+            image: "part code\n0\n5\n10\n",
+            trace: "",
+            words: "sim v i t 3 o",
+            rows: "0 run R=255\n1 run R=251\n2 run R=247\n",
+        },
+        Run {
             netlist: KEEPER,
             image: "part DM\n3\n4\npart code\n0\n1\n3\n1\n",
             trace: "0 0x21\n1 34\n0 35\n1 36\n",
@@ -171,9 +225,21 @@ fn runs_that_are_refused(rt: HostRuntime) -> Result<(), Fail> {
         ("", "FOO", "FOO", 4, "netlist: line 1: V1 BadForm\n"),
         (LOOPED, "FOO", "FOO", 4, "netlist: line 0: V7 Loop\n"),
         (PORTLESS, "FOO", "FOO", 4, "netlist: line 0: V8 BadPorts\n"),
-        (COPIER, "part code\n256\n", "FOO", 5, "image: line 2: G3 ValueTooWide\n"),
+        (
+            COPIER,
+            "part code\n256\n",
+            "FOO",
+            5,
+            "image: line 2: G3 ValueTooWide\n",
+        ),
         (COPIER, "part DM\n", "", 5, "image: line 1: G2 NoSuchPart\n"),
-        (COPIER, "", "0\n\n2\n", 5, "trace: line 3: G3 ValueTooWide\n"),
+        (
+            COPIER,
+            "",
+            "0\n\n2\n",
+            5,
+            "trace: line 3: G3 ValueTooWide\n",
+        ),
         (KEEPER, "", "0\n", 5, "trace: line 1: G1 BadForm\n"),
     ];
     for one in refused {
