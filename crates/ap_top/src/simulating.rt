@@ -85,12 +85,7 @@ fn read_memories<D: Desk>(
 }
 
 /// Reads the trace of its inputs.
-fn read_inputs<D: Desk>(
-    alloc: Global,
-    name: &str,
-    flat: &Flat,
-    desk: &mut D,
-) -> Result<Trace, Stop>
+fn read_inputs<D: Desk>(alloc: Global, name: &str, flat: &Flat, desk: &mut D) -> Result<Trace, Stop>
     requires { IsFileName name.now }
     ensures fits { IfOk result (λ trace. TraceFitsShape trace (shape_of flat.now.outside)) }
     ensures trace { IfOk result
