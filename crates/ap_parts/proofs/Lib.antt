@@ -1,0 +1,10 @@
+pub mod Lists
+pub mod ModuleNames
+pub mod KindLists
+pub mod KindNames
+pub mod FileLists
+pub mod FileNames
+pub mod FittingKinds
+pub mod KnownPorts
+pub mod BuiltParts
+pub mod KnownParts
