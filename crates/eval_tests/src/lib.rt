@@ -6,4 +6,4 @@
 #[cfg(test)]
 mod bench_tests;
 #[cfg(test)]
-mod op_tests;
+mod texts;
