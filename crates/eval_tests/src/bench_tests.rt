@@ -1,5 +1,6 @@
 //! Rows of small netlists, and the order of a bench.
-use crate::texts::{ADDED_UP, EXCHANGE, Widths, opened, operators, rows};
+use crate::operators::{OF_1, OF_8, OF_64, OF_HALVES};
+use crate::texts::{ADDED_UP, EXCHANGE, opened, rows};
 use ap_eval::Bench;
 use ap_image::read_image;
 use std::alloc::Global;
@@ -22,37 +23,26 @@ fn an_instance_holds_its_register(rt: HostRuntime) -> Result<(), Fail> {
     Ok(())
 }
 
-/// Whether the operators at these widths show this row, which was worked out by what IEEE 1364 says of unsigned operands.
-fn shows(alloc: Global, widths: Widths, inputs: &str, row: &str) -> Result<bool, Fail> {
-    let netlist = operators(alloc, widths)?;
-    let text = rows(alloc, netlist.as_str(), "", inputs, 1)?;
+/// Whether the operators of a netlist show this row, which was worked out by what IEEE 1364 says of unsigned operands.
+fn shows(alloc: Global, netlist: &str, inputs: &str, row: &str) -> Result<bool, Fail> {
+    let text = rows(alloc, netlist, "", inputs, 1)?;
     Ok(text.as_str() == row)
 }
 
 #[test]
 fn operators_of_8_bits(rt: HostRuntime) -> Result<(), Fail> {
-    let widths = Widths {
-        top: 7,
-        slice: (6, 3, 3),
-        parts: (7, 15),
-    };
     assert!(rt;
         shows(
             rt.alloc(),
-            widths,
+            OF_8,
             "0 200 100 1\n",
             "0 run NOT=55 ADD=44 SUB=100 AND=64 OR=236 XOR=172 EQ=0 LTU=0 CHOOSE=200 SLICE=9 CAT=51300\n"
         )?
     );
-    let halves = Widths {
-        top: 7,
-        slice: (7, 0, 7),
-        parts: (3, 7),
-    };
     assert!(rt;
         shows(
             rt.alloc(),
-            halves,
+            OF_HALVES,
             "0 3 5 0\n",
             "0 run NOT=252 ADD=8 SUB=254 AND=1 OR=7 XOR=6 EQ=0 LTU=1 CHOOSE=5 SLICE=3 CAT=53\n"
         )?
@@ -62,28 +52,18 @@ fn operators_of_8_bits(rt: HostRuntime) -> Result<(), Fail> {
 
 #[test]
 fn operators_of_the_least_and_the_greatest_width(rt: HostRuntime) -> Result<(), Fail> {
-    let least = Widths {
-        top: 0,
-        slice: (0, 0, 0),
-        parts: (0, 1),
-    };
     assert!(rt;
         shows(
             rt.alloc(),
-            least,
+            OF_1,
             "0 1 1 1\n",
             "0 run NOT=0 ADD=0 SUB=0 AND=1 OR=1 XOR=0 EQ=1 LTU=0 CHOOSE=1 SLICE=1 CAT=3\n"
         )?
     );
-    let greatest = Widths {
-        top: 63,
-        slice: (63, 60, 3),
-        parts: (31, 63),
-    };
     assert!(rt;
         shows(
             rt.alloc(),
-            greatest,
+            OF_64,
             "0 18446744073709551615 1 0\n",
             "0 run NOT=0 ADD=0 SUB=18446744073709551614 AND=1 OR=18446744073709551615 XOR=18446744073709551614 EQ=0 LTU=0 CHOOSE=1 SLICE=15 CAT=18446744069414584321\n"
         )?

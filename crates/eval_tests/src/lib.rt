@@ -6,4 +6,6 @@
 #[cfg(test)]
 mod bench_tests;
 #[cfg(test)]
+mod operators;
+#[cfg(test)]
 mod texts;

@@ -3,7 +3,6 @@ ghost use Rattle.std.specs.Prelude.{◌≤◌};
 
 use ap_flat::Flat;
 use ap_image::{read_image, read_trace};
-use ap_net::NoMemory;
 use ap_sim::{Rows, read_netlist};
 use std::alloc::Global;
 use std::test::Fail;
@@ -69,93 +68,6 @@ module top (
   k_sum u_SUM (.clk(clk), .rst(rst), .a(idata), .b(n0), .y(n0));
 endmodule
 ";
-
-/// Widths of a netlist that shows every operator on its inputs.
-#[derive(Clone, Copy)]
-pub struct Widths {
-    /// The highest bit of both operands.
-    pub top: u32,
-    /// The bits of the slice that is taken, and the highest bit of what it gives.
-    pub slice: (u32, u32, u32),
-    /// The highest bit of what is put together, and of both.
-    pub parts: (u32, u32),
-}
-
-/// A netlist that shows every operator on its inputs.
-pub fn operators(alloc: Global, w: Widths) -> Result<String, NoMemory> {
-    let top = w.top;
-    let (high, low, slice) = w.slice;
-    let (part, both) = w.parts;
-    let text = format!(in alloc;
-        "\
-module top (
-  input clk,
-  input rst,
-  output [3:0] iaddr,
-  input [7:0] idata,
-  input [0:0] mwait,
-  input [{top}:0] p_A,
-  input [{top}:0] p_B,
-  input [0:0] p_S,
-  output [0:0] stall,
-  output [0:0] kill,
-  output [0:0] w_NOT_e,
-  output [{top}:0] w_NOT_v,
-  output [0:0] w_ADD_e,
-  output [{top}:0] w_ADD_v,
-  output [0:0] w_SUB_e,
-  output [{top}:0] w_SUB_v,
-  output [0:0] w_AND_e,
-  output [{top}:0] w_AND_v,
-  output [0:0] w_OR_e,
-  output [{top}:0] w_OR_v,
-  output [0:0] w_XOR_e,
-  output [{top}:0] w_XOR_v,
-  output [0:0] w_EQ_e,
-  output [0:0] w_EQ_v,
-  output [0:0] w_LTU_e,
-  output [0:0] w_LTU_v,
-  output [0:0] w_CHOOSE_e,
-  output [{top}:0] w_CHOOSE_v,
-  output [0:0] w_SLICE_e,
-  output [{slice}:0] w_SLICE_v,
-  output [0:0] w_CAT_e,
-  output [{both}:0] w_CAT_v
-);
-  wire [{part}:0] n0;
-  wire [{part}:0] n1;
-  assign n0 = p_A[{part}:0];
-  assign n1 = p_B[{part}:0];
-  assign iaddr = 4'd0;
-  assign stall = 1'd0;
-  assign kill = 1'd0;
-  assign w_NOT_e = 1'd1;
-  assign w_NOT_v = ~p_A;
-  assign w_ADD_e = 1'd1;
-  assign w_ADD_v = p_A + p_B;
-  assign w_SUB_e = 1'd1;
-  assign w_SUB_v = p_A - p_B;
-  assign w_AND_e = 1'd1;
-  assign w_AND_v = p_A & p_B;
-  assign w_OR_e = 1'd1;
-  assign w_OR_v = p_A | p_B;
-  assign w_XOR_e = 1'd1;
-  assign w_XOR_v = p_A ^ p_B;
-  assign w_EQ_e = 1'd1;
-  assign w_EQ_v = p_A == p_B;
-  assign w_LTU_e = 1'd1;
-  assign w_LTU_v = p_A < p_B;
-  assign w_CHOOSE_e = 1'd1;
-  assign w_CHOOSE_v = p_S ? p_A : p_B;
-  assign w_SLICE_e = 1'd1;
-  assign w_SLICE_v = p_A[{high}:{low}];
-  assign w_CAT_e = 1'd1;
-  assign w_CAT_v = {{n0, n1}};
-endmodule
-"
-    )?;
-    Ok(text)
-}
 
 /// The netlist of a text, opened.
 pub fn opened(alloc: Global, text: &str) -> Result<Flat, Fail> {
