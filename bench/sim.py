@@ -4,8 +4,7 @@
     bench/sim.py [CYCLES] [PROGRAM ..]       measures; CYCLES is 200000, PROGRAM ./asip
     bench/sim.py --rows V I T N              prints the rows that Icarus shows for the text V on the image I and the trace T
 
-The texts are those that stand at the end of this file as TEXTS, by the files that hold them: the paths are taken from the
-environment's SIM_TEXTS (a list of V=I pairs with blanks between) where it is set. Each of the three writes the same rows, which
+The texts and their images are those that the variable SIM_TEXTS names, as pairs V=I with blanks between. Each of the three writes the same rows, which
 are compared byte by byte; where they differ it ends with 1. Tools that aren't there are skipped. A time is the least of three,
 without that of the same run with no cycles, so that it is the time of the cycles alone.
 """
