@@ -8,7 +8,7 @@ use Rattle.ap_net.specs.Ready.{numbers}
 use Rattle.ap_net.proofs.Laws.{IsFrom-more}
 use Rattle.ap_ctl.specs.declared.move_on.Gates.{Gates}
 use Rattle.ap_ctl.specs.declared.nets.ControlGiven.{ControlGiven}
-use Rattle.ap_ctl.specs.Building.{BuildsComparing, Gives, GivesComparing, GivesEach}
+use Rattle.ap_ctl.specs.Building.{BuildsComparing, Gives, GivesComparing, GivesEach, GivesEachComparing}
 use Rattle.ap_ctl.specs.declared.field.FieldTest.{FieldTest}
 use Rattle.ap_ctl.specs.Given.{holding, killing}
 use Rattle.ap_ctl.specs.Moves.{AreGates, busy_numbers, next_numbers}
@@ -56,19 +56,32 @@ module _ (given : ControlGiven) (valid : List Wire) where
   abbrev all : List ℕ
   all = numbers valid ++ killing given
 
+  valid_from : (a x : Draft) → Each (IsFrom all a x) (numbers valid)
+  valid_from a x = Each-weaker (Among (numbers valid)) (IsFrom all a x) (λ n h. inl (among_l (numbers valid) (killing given) n h)) (numbers valid) (among_all (numbers valid))
+
+  -- the gates, what fires, and the whole
+  pub gates_give : {ps : List (Wire × FieldTest)} (a b c d : Draft) (decoded : List (List Wire)) (g : Gates) → CanFresh a → BuildsComparing ps (numbers given.words) a b → Each (IsFrom (numbers given.words) a b) (flat_map numbers decoded)
+      → Gives (busy_numbers valid decoded given) b c g.hold → GivesEach (g.hold.number ∷ given.taken.number ∷ []) c d (g.goes ∷ g.kill ∷ g.lives ∷ []) → GivesEachComparing ps (numbers valid ++ killing given) a d (g.goes ∷ g.kill ∷ g.lives ∷ [])
+  gates_give a b c d decoded g fresh p came one two =
+      let hold = hold_gives (killing given) holds_in a b c decoded g.hold fresh p came one in
+      let taken : IsFrom all a c given.taken.number = inl (among_r (numbers valid) (killing given) given.taken.number (inl refl)) in
+      GivesEach-after all (g.hold.number ∷ given.taken.number ∷ []) a c d (g.goes ∷ g.kill ∷ g.lives ∷ []) hold.builds two (hold.result, (taken, tt))
+
+  pub fires_give : {ps : List (Wire × FieldTest)} (a d e : Draft) (g : Gates) (fires : List Wire) → GivesEachComparing ps (numbers valid ++ killing given) a d (g.goes ∷ g.kill ∷ g.lives ∷ [])
+      → GivesEach (g.goes.number ∷ g.lives.number ∷ numbers valid) d e fires → GivesEachComparing ps (numbers valid ++ killing given) a e fires
+  fires_give a d e g fires gates three = GivesEach-after all (g.goes.number ∷ g.lives.number ∷ numbers valid) a d e fires gates.builds three (gates.results.0, (gates.results.1.1.0, valid_from a d))
+
   pub rest_builds : {ps : List (Wire × FieldTest)} (a b c d e f : Draft) (decoded : List (List Wire)) (g : Gates) (fires next : List Wire) → CanFresh a → BuildsComparing ps (numbers given.words) a b → Each (IsFrom (numbers given.words) a b) (flat_map numbers decoded)
       → Gives (busy_numbers valid decoded given) b c g.hold → GivesEach (g.hold.number ∷ given.taken.number ∷ []) c d (g.goes ∷ g.kill ∷ g.lives ∷ []) → GivesEach (g.goes.number ∷ g.lives.number ∷ numbers valid) d e fires
       → GivesEach (next_numbers g valid fires) e f next → BuildsComparing ps (numbers valid ++ killing given) a f
   rest_builds a b c d e f decoded g fires next fresh p came one two three four =
       let hold = hold_gives (killing given) holds_in a b c decoded g.hold fresh p came one in
-      let taken : IsFrom all a c given.taken.number = inl (among_r (numbers valid) (killing given) given.taken.number (inl refl)) in
-      let gates = GivesEach-after all (g.hold.number ∷ given.taken.number ∷ []) a c d (g.goes ∷ g.kill ∷ g.lives ∷ []) hold.builds two (hold.result, (taken, tt)) in
-      let valid_from : (x : Draft) → Each (IsFrom all a x) (numbers valid) = λ x. Each-weaker (Among (numbers valid)) (IsFrom all a x) (λ n h. inl (among_l (numbers valid) (killing given) n h)) (numbers valid) (among_all (numbers valid)) in
-      let fire = GivesEach-after all (g.goes.number ∷ g.lives.number ∷ numbers valid) a d e fires gates.builds three (gates.results.0, (gates.results.1.1.0, valid_from d)) in
+      let gates = gates_give a b c d decoded g fresh p came one two in
+      let fire = fires_give a d e g fires gates three in
       let later : (n : ℕ) → IsFrom all a d n → IsFrom all a e n = λ n h. IsFrom-more all a d e n three.builds.reads.extends h in
       let held : IsFrom all a e g.hold.number = later g.hold.number (IsFrom-more all a c d g.hold.number two.builds.reads.extends hold.result) in
       (GivesEach-after all (next_numbers g valid fires) a e f next fire.builds four
-      (held, (later g.goes.number gates.results.0, (later g.lives.number gates.results.1.1.0, Each-join (IsFrom all a e) (numbers valid) (numbers fires) (valid_from e) (Each-map (IsFrom all a e) (λ (w : Wire). w.number) fires fire.results))))).builds
+      (held, (later g.goes.number gates.results.0, (later g.lives.number gates.results.1.1.0, Each-join (IsFrom all a e) (numbers valid) (numbers fires) (valid_from a e) (Each-map (IsFrom all a e) (λ (w : Wire). w.number) fires fire.results))))).builds
 
 pub gates_later : {ps : List (Wire × FieldTest)} {from : List ℕ} {a b : Draft} (taken : Wire) (g : Gates) → BuildsComparing ps from a b → AreGates a taken g → AreGates b taken g
 gates_later taken g p h = record { goes = Tells-Builds p h.goes; kill = Tells-Builds p h.kill; lives = Tells-Builds p h.lives }

@@ -243,8 +243,8 @@ module _ (design : Design) (given : ControlGiven) (a b c d : Draft) (from : List
       h later (Extends-trans c d later c_to_d e)
       (Each-join (Ready by later) (numbers nets.valid) last (Each-weaker (ReadyAfter by d last) (Ready by later) (λ m k. k later e ready) (numbers nets.valid) (valid_each by last none)) ready)
 
-  pub follows_given : from ≡ numbers nets.valid ++ killing given → MadeFollows given nets.valid c made → nets.decoded ≡ made.decoded → nets.hold ≡ replicate design.stages made.gates.hold → FollowsGiven given a d nets
-  follows_given is m decoded hold = record {
+  pub follows_given : from ≡ numbers nets.valid ++ killing given → MadeFollows given nets.valid c made → nets.decoded ≡ made.decoded → nets.hold ≡ replicate design.stages made.gates.hold → nets.fires ≡ made.fires → nets.kill ≡ made.gates.kill → FollowsGiven given a d nets
+  follows_given is m decoded hold firing kill = record {
     all = λ by none n low high. ⊎_elim
         (λ inside.
         let lt : n - length a.nets < design.stages - 1 = (let e = b_long in omega arith) in
@@ -256,6 +256,9 @@ module _ (design : Design) (given : ControlGiven) (a b c d : Draft) (from : List
         (cases_lt n (length b.nets));
     hold = λ by none. subst (λ (l : List Wire). Each (λ (w : Wire). ReadyAfter by d (holding given) w.number) l) (sym hold) (Each-replicate (λ (w : Wire). ReadyAfter by d (holding given) w.number) design.stages made.gates.hold (without_valid by (holding given) none made.gates.hold.number (m.hold by)));
     decoded = subst (EachPair (FollowsWord d) given.words) (sym decoded) (words_later c d given.words made.decoded c_to_d m.decoded);
+    fires = λ by none. subst (λ (l : List Wire). Each (λ (w : Wire). ReadyAfter by d (killing given) w.number) l) (sym firing)
+        (Each-weaker (λ (w : Wire). ReadyAfter by c (numbers nets.valid ++ killing given) w.number) (λ (w : Wire). ReadyAfter by d (killing given) w.number) (λ w h. without_valid by (killing given) none w.number h) made.fires (m.fires by));
+    kill = λ by none. subst (λ (w : Wire). ReadyAfter by d (killing given) w.number) (sym kill) (without_valid by (killing given) none made.gates.kill.number (m.kill by));
   }
     where
       length_map : {X Y : Type 0} (f : X → Y) (xs : List X) → length (map f xs) ≡ length xs

@@ -121,9 +121,12 @@ LooksAtNone by registers = Each (λ (w : Wire). by.looks w.number ≡ []) regist
 abbrev pub FollowsWord : Draft → Wire → List Wire → Type 0
 FollowsWord d word conditions = (by : Dependence) → Each (λ (w : Wire). ReadyAfter by d (word.number ∷ []) w.number) conditions
 
--- What came is ready once the nets that were given are, so nothing of it depends on itself or on any other net. A condition follows
--- from its stage's word alone, and whether a stage is held doesn't follow from what is taken.
+-- What came is ready once the nets that were given are, so nothing of it depends on itself or on any other net. So are the nets that
+-- are answered, whichever they are: what fires and what is killed. A condition follows from its stage's word alone, and whether a
+-- stage is held doesn't follow from what is taken.
 pub record FollowsGiven (given : ControlGiven) (old new : Draft) (nets : ControlNets) : Type 0 where
   pub all : (by : Dependence) → LooksAtNone by nets.valid → (n : ℕ) → length old.nets ≤ n → n < length new.nets → ReadyAfter by new (killing given) n
   pub hold : (by : Dependence) → LooksAtNone by nets.valid → Each (λ (w : Wire). ReadyAfter by new (holding given) w.number) nets.hold
   pub decoded : EachPair (FollowsWord new) given.words nets.decoded
+  pub fires : (by : Dependence) → LooksAtNone by nets.valid → Each (λ (w : Wire). ReadyAfter by new (killing given) w.number) nets.fires
+  pub kill : (by : Dependence) → LooksAtNone by nets.valid → ReadyAfter by new (killing given) nets.kill.number

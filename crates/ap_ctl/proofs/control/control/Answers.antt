@@ -78,5 +78,5 @@ returns c =
     record {
       control = is_control design given a b d2 d3 from made nets v.wires v.ok builds last m.made.count m.made refl c.in_ok-hold.ensures refl refl count;
       adds = adds_control design given a b d2 d3 from made nets v.wires v.ok builds last m.made.count c.requires.fresh v.late c.in_ok-clock.ensures.late v.ports v.others (omega (arith, (stages_within design c.requires.clean).0));
-      follows = follows_given design given a b d2 d3 from made nets v.wires v.ok builds last m.made.count refl m.follows refl c.in_ok-hold.ensures;
+      follows = follows_given design given a b d2 d3 from made nets v.wires v.ok builds last m.made.count refl m.follows refl c.in_ok-hold.ensures refl refl;
     }

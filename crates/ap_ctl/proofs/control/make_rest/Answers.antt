@@ -5,15 +5,15 @@ use Rattle.ap_net.specs.Ready.{ReadyAfter, numbers}
 use Rattle.ap_net.proofs.Laws.{Carries-Extends, Extends-trans, ReadyAfter-Extends}
 use Rattle.ap_ctl.specs.declared.move_on.Gates.{Gates}
 use Rattle.ap_ctl.specs.Building.{Gives, GivesEach, IsBit, Tells}
-use Rattle.ap_ctl.specs.Given.{holding}
+use Rattle.ap_ctl.specs.Given.{holding, killing}
 use Rattle.ap_ctl.specs.Moves.{busy_numbers, fire_of}
 use Rattle.ap_ctl.specs.Meaning.{is_held}
 use Rattle.ap_ctl.specs.Nets.{Shows}
 use Rattle.ap_ctl.proofs.Beside.{EachFrom-second, EachFrom-weaker}
 use Rattle.ap_ctl.proofs.Bits.{IsBit-Carries, IsBit-Tells}
-use Rattle.ap_ctl.proofs.Built.{EachBit-Builds, IsBit-Builds, IsGiven-Builds, Tells-Builds, ready_from}
+use Rattle.ap_ctl.proofs.Built.{EachBit-Builds, IsBit-Builds, IsGiven-Builds, Tells-Builds, follows_each, follows_later, ready_from}
 use Rattle.ap_ctl.proofs.Decoded.{decoded_later, words_later}
-use Rattle.ap_ctl.proofs.Following.{gates_later, hold_gives, rest_builds}
+use Rattle.ap_ctl.proofs.Following.{fires_give, gates_give, gates_later, hold_gives, rest_builds}
 use Rattle.ap_ctl.proofs.Rest.{fires_shown, kill_shown, nexts_shown}
 use Rattle.ap_ctl.proofs.Within.{stages_within}
 use Rattle.ap_ctl.proofs.control.make_rest.Goals as goal
@@ -120,19 +120,31 @@ pub returns-clause-follows : goal.returns-clause-follows
 returns-clause-follows c =
     let given = c.args.given.now in
     let valid : List Wire = c.args.valid.now in
+    let g : Gates = c.in_ok-gates.gates in
+    let fires : List Wire = c.in_ok-fires.fires in
+    let all : List ℕ = numbers valid ++ killing given in
     let two = c.in_ok-hold.ensures in
     let three = c.in_ok-gates.ensures in
     let four = c.in_ok-fires.ensures in
     let five = c.in_ok-next.ensures in
+    let a = c.args.out.now in
     let d1 = c.decoded.new.out in
     let d2 = c.hold.new.out in
+    let d3 = c.make_gates.new.out in
+    let d4 = c.fires.new.out in
     let d5 : Draft = c.next_valid.new.out in
     let e35 = Extends-trans c.make_gates.new.out c.fires.new.out d5 four.gives.builds.reads.extends five.gives.builds.reads.extends in
     let e25 = Extends-trans d2 c.make_gates.new.out d5 three.gives.builds.reads.extends e35 in
     let e15 = Extends-trans d1 d2 d5 two.gives.builds.reads.extends e25 in
+    let gates = gates_give given valid a d1 d2 d3 c.in_ok-decoded.decoded g c.requires.fresh (rw c.as_slice.ensures at c.in_ok-decoded.ensures.builds) (rw c.as_slice.ensures at c.in_ok-decoded.ensures.came)
+    (subst (Gives (busy_numbers valid c.in_ok-decoded.decoded given) d1 d2) (sym three.hold) (rw c.as_slice-2.ensures at two.gives))
+    (subst (λ (w : Wire). GivesEach (w.number ∷ given.taken.number ∷ []) d2 d3 (g.goes ∷ g.kill ∷ g.lives ∷ [])) (sym three.hold) three.gives) in
+    let fire = fires_give given valid a d3 d4 g fires gates four.gives in
     let held = hold_gives given valid (holding given) (λ n h. h) c.args.out.now d1 d2 c.in_ok-decoded.decoded c.in_ok-hold.hold c.requires.fresh (rw c.as_slice.ensures at c.in_ok-decoded.ensures.builds) (rw c.as_slice.ensures at c.in_ok-decoded.ensures.came) (rw c.as_slice-2.ensures at two.gives) in
     record {
       hold = λ by. subst (λ (w : Wire). ReadyAfter by d5 (numbers valid ++ holding given) w.number) (sym three.hold)
           (ReadyAfter-Extends by d2 d5 (numbers valid ++ holding given) c.in_ok-hold.hold.number e25 (ready_from by (numbers valid ++ holding given) c.args.out.now d2 c.in_ok-hold.hold.number held.builds.reads held.result));
       decoded = words_later d1 d5 given.words c.in_ok-decoded.decoded e15 (rw c.as_slice.ensures at c.in_ok-decoded.ensures.follows);
+      fires = λ by. follows_later by all d4 d5 fires five.gives.builds.reads.extends (follows_each by all a d4 fires fire);
+      kill = λ by. ReadyAfter-Extends by d3 d5 all g.kill.number e35 (follows_each by all a d3 (g.goes ∷ g.kill ∷ g.lives ∷ []) gates).1.0;
     }
