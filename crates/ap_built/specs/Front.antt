@@ -11,6 +11,7 @@ use Rattle.ap_net.specs.Cells.{IsNet}
 use Rattle.ap_net.specs.Draft.{Draft}
 use Rattle.ap_net.specs.Modules.{ModuleText}
 use Rattle.ap_pipe.specs.declared.table.SlotTable.{SlotTable}
+use Rattle.ap_pipe.specs.declared.table.StageSlots.{StageSlots}
 use Rattle.ap_pipe.specs.Slots.{AreSlotsOf}
 use Rattle.ap_ctl.specs.declared.nets.ControlGiven.{ControlGiven}
 use Rattle.ap_ctl.specs.declared.nets.ControlNets.{ControlNets}
@@ -24,10 +25,14 @@ use Rattle.ap_border.specs.Fetch.{HasFetch}
 use Rattle.ap_front.specs.declared.fetch.Fetching.{Fetching}
 use Rattle.ap_front.specs.declared.registers.Registers.{Registers}
 use Rattle.ap_front.specs.Controlling.{IsControlled, words_of}
-use Rattle.ap_front.specs.Driven.{GivesFlights, IsFlying}
+use Rattle.ap_whole.specs.Homes.{home_of}
+use Rattle.ap_front.specs.Driven.{GivesFlights, IsFlying, at_stage, no_slots}
 use Rattle.ap_front.specs.Fetching.{IsFetched}
-use Rattle.ap_front.specs.Homes.{home_in}
 use Rattle.ap_front.specs.Opened.{front_wires}
+
+-- the slot that keeps a local, by stage, instruction and local: that of its first home
+abbrev pub kept_in : Design → List StageSlots → ℕ → Instr → ℕ → ℕ
+kept_in design stages stage instr i = home_of design (at_stage no_slots stages stage).homes instr i
 
 -- The pieces of the front, each by its names and driven. What says whether stages are held is the same in all of them: a net of control.
 pub record IsFrontBuilt (design : Design) (d : Draft) (modules : List ModuleText) (table : SlotTable) (r : Registers) (comings : List Coming) (f : Fetching) (given : ControlGiven) (nets : ControlNets) : Type 0 where
@@ -54,7 +59,7 @@ pub record GivesFront (design : Design) (d : Draft) (modules : List ModuleText) 
   pub target : fetch.target ≡ f.target
   pub flights : GivesFlights design d table.stages r comings
   pub homes : (stage i word : ℕ) (instr : Instr) → 1 ≤ stage → stage ≤ design.stages - 1 → instr_of design word ≡ Some instr → is_live design word stage i ≡ true
-      → home_in design table.stages stage instr i < length ((flights.has).registers stage).slots
+      → kept_in design table.stages stage instr i < length ((flights.has).registers stage).slots
   pub words : (stage : ℕ) → 1 ≤ stage → stage ≤ design.stages - 1 → IsNet d.nets ((flights.has).registers stage).word × (((flights.has).registers stage).word.width ≡ design.word)
   pub holds : (stage : ℕ) → 1 ≤ stage → stage ≤ design.stages - 1 → Shows design given nets.valid d (λ look. is_held design look stage) ((flights.has).hold stage)
 
