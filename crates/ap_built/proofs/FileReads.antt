@@ -29,7 +29,7 @@ module _ (design : Design) (d : Draft) (modules : List ModuleText) (banks : Bank
       let theirs : slice_get d.instances (part_of bank) ≡ Some ((gives.files).each file f at).of = subst (λ n. slice_get d.instances n ≡ Some ((gives.files).each file f at).of) (gives.part file f at) ((gives.files).each file f at).placed in
       cc
 
-  reads : JoinsReads design d modules banks gives file f at
+  reads : JoinsReads design d modules banks gives.files file f at
   reads = record {
     index = λ number w there. subst (λ (i : Instance). slice_get i.nets (read_index number) ≡ Some w) same (from_first (λ n x. slice_get (bank.placed.of).nets (read_index n) ≡ Some x) bank.reads bank.placed.joined.indices number w there);
     value = λ number w there. subst (λ (i : Instance). slice_get i.nets (read_value number) ≡ Some w) same (from_first (λ n x. slice_get (bank.placed.of).nets (read_value n) ≡ Some x) bank.values bank.placed.joined.shown number w there);

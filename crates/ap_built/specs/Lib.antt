@@ -1,2 +1,4 @@
 pub mod Front
 pub mod FileReads
+pub mod Top
+pub mod Running
