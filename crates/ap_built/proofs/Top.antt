@@ -83,10 +83,10 @@ module _ (laws : Laws) (design : Design) (cards : List Card) (d : Draft) (module
   value stage = data_values design (h.base stage) (h.courses stage)
 
   -- the data of an instruction, by the nets of its course
-  pub record HasOne (stage k : ℕ) (instr : Instr) : Type 0 where
-    pub c : Course
-    pub at : slice_get (h.courses stage) k ≡ Some c
-    pub has : (i : HasInstr design cards d modules files home stage (flights.registers stage).word (flights.registers stage).place instr) × (i.value ≡ (λ r a. data_value design r (h.base stage) c a))
+  record HasOne (stage k : ℕ) (instr : Instr) : Type 0 where
+    c : Course
+    at : slice_get (h.courses stage) k ≡ Some c
+    has : (i : HasInstr design cards d modules files home stage (flights.registers stage).word (flights.registers stage).place instr) × (i.value ≡ (λ r a. data_value design r (h.base stage) c a))
 
   one : (stage k : ℕ) (instr : Instr) → 1 ≤ stage → stage ≤ design.stages - 1 → slice_get design.instrs k ≡ Some instr → HasOne stage k instr
   one stage k instr low high at =

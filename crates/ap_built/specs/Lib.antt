@@ -2,3 +2,4 @@ pub mod Front
 pub mod FileReads
 pub mod Top
 pub mod Running
+pub mod Ordered

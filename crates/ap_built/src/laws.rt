@@ -1,12 +1,13 @@
 //! Laws of the definitions. They do nothing: their contracts are what they say.
 ghost use Rattle.ap_built.specs.FileReads.{FilesJoinReads};
 ghost use Rattle.ap_built.specs.Front.{FrontsGiveBorder};
+ghost use Rattle.ap_built.specs.Ordered.{OrderedTopsAreBuilt};
 ghost use Rattle.ap_built.specs.Running.{MadeTopsRun};
 ghost use Rattle.ap_built.specs.Top.{TopsAreProcessors};
 
 use ap_bank::laws::{files_give_the_border, regs_give_the_border};
 use ap_data::laws::{stages_have_data, units_are_asked};
-use ap_steps::laws::built_modules_are_finished;
+use ap_steps::laws::{built_modules_are_finished, tops_are_ready};
 use ap_values::laws::effects_are_by_data;
 use ap_whole::laws::{homes_are_found, whole_processors_run};
 
@@ -35,6 +36,14 @@ pub fn tops_are_processors()
     stages_have_data();
     units_are_asked();
     effects_are_by_data();
+}
+
+/// A top whose drafts follow each other in the steps in which it is built, where what came in each step follows from the nets that it should,
+/// is built in steps: all its nets are ready in the end.
+pub fn ordered_tops_are_built()
+    ensures { OrderedTopsAreBuilt }
+{
+    tops_are_ready();
 }
 
 /// A top that was built in steps of its pieces, over any modules that have the parts of its design, ends a netlist with them. The netlist runs
