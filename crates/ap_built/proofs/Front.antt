@@ -1,6 +1,6 @@
 -- The front of a finished draft is what the border asks.
 use Rattle.std.proofs.Common.{◌≡◌, ℕ, zero, suc, ◌+◌, ◌-◌, ◌%◌, ◌^◌, ◌<◌, ◌≤◌, ◌==◌, if◌then◌else◌, Bool, List, [], ◌∷◌, length, flat_map, Option, Some, true, false, refl, sym, ap, subst, ◌∙◌, arith}
-use Rattle.std.specs.Prelude.{Contains, find, slice_get, unwrap_or}
+use Rattle.std.specs.Prelude.{find, slice_get, unwrap_or}
 use Rattle.std.specs.Option.{option_map_or}
 use Rattle.std.specs.List.{AllByRecursion as Each}
 use Rattle.ap_desc.specs.Clean.{IsClean}
@@ -26,7 +26,6 @@ use Rattle.ap_ctl.specs.Nets.{Shows}
 use Rattle.ap_flight.specs.declared.stage.Coming.{Coming}
 use Rattle.ap_flight.specs.declared.stage.StageRegisters.{StageRegisters}
 use Rattle.ap_flight.specs.Stages.{stage_wires}
-use Rattle.ap_border.specs.Control.{HasControl}
 use Rattle.ap_flight.proofs.Steps.{Carries-width}
 use Rattle.ap_border.specs.Fetch.{HasFetch, next_pc}
 use Rattle.ap_border.proofs.ControlShown.{bit_says}
@@ -34,7 +33,7 @@ use Rattle.ap_whole.specs.Homes.{HomesAreFound, home_of}
 use Rattle.ap_front.specs.declared.fetch.Fetching.{Fetching}
 use Rattle.ap_front.specs.declared.registers.Registers.{Registers}
 use Rattle.ap_front.specs.Driven.{GivesFlights, at_stage, no_coming, no_registers, no_slots}
-use Rattle.ap_front.specs.Opened.{front_wires, wire_width}
+use Rattle.ap_front.specs.Opened.{wire_width}
 use Rattle.ap_front.proofs.Controlled.{control_gives_border, holds_each_stage}
 use Rattle.ap_front.proofs.Flying.{flights_give_border, names_at, names_long, there}
 use Rattle.ap_front.proofs.Readied.{mapped_long}

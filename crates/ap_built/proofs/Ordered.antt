@@ -1,9 +1,5 @@
 -- A top whose steps are in order is built in steps.
-use Rattle.std.proofs.Common.{List}
-use Rattle.ap_net.specs.declared.cell.Wire.{Wire}
-use Rattle.ap_net.specs.Outside.{Outside}
-use Rattle.ap_net.specs.Ready.{Dependence}
-use Rattle.ap_steps.specs.TopOrder.{TopDrafts, TopNumbers, TopsAreReady}
+use Rattle.ap_steps.specs.TopOrder.{TopsAreReady}
 use Rattle.ap_built.specs.Ordered.{OrderedTopsAreBuilt}
 
 pub ordered_tops_are_built : TopsAreReady → OrderedTopsAreBuilt

@@ -1,17 +1,10 @@
 -- A top that was built in steps of its pieces runs as the machine.
-use Rattle.std.proofs.Common.{List}
-use Rattle.ap_bits.specs.declared.card.Card.{Card}
-use Rattle.ap_desc.specs.Clean.{FitsCards}
-use Rattle.ap_desc.specs.declared.design.Design.{Design}
-use Rattle.ap_net.specs.declared.cell.Wire.{Wire}
-use Rattle.ap_net.specs.Draft.{Draft}
-use Rattle.ap_net.specs.Modules.{ModuleText}
 use Rattle.ap_steps.specs.Built.{BuiltAreFinished, BuiltEndNetlists}
-use Rattle.ap_steps.specs.Steps.{Step, last_draft}
+use Rattle.ap_steps.specs.Steps.{last_draft}
 use Rattle.ap_signals.specs.DesignOutside.{outside_of}
-use Rattle.ap_parts.specs.Known.{Knows, dependence_of}
+use Rattle.ap_parts.specs.Known.{dependence_of}
 use Rattle.ap_whole.specs.Whole.{WholeProcessorsRun}
-use Rattle.ap_built.specs.Running.{EndsAndRuns, IsTopMade, MadeTopsRun}
+use Rattle.ap_built.specs.Running.{MadeTopsRun}
 use Rattle.ap_built.specs.Top.{TopsAreProcessors}
 
 pub made_tops_run : BuiltAreFinished → BuiltEndNetlists → TopsAreProcessors → WholeProcessorsRun → MadeTopsRun

@@ -1,5 +1,5 @@
 -- A top that was built of its pieces is a whole processor.
-use Rattle.std.proofs.Common.{◌≡◌, ℕ, zero, suc, ◌+◌, ◌-◌, ◌<◌, ◌≤◌, List, [], ◌∷◌, length, Option, Some, true, refl, sym, ap, subst, ◌∙◌, arith}
+use Rattle.std.proofs.Common.{◌≡◌, ℕ, zero, suc, ◌+◌, ◌-◌, ◌≤◌, List, [], ◌∷◌, length, Option, Some, true, refl, sym, ap, subst, ◌∙◌, arith}
 use Rattle.std.specs.Prelude.{slice_get}
 use Rattle.std.specs.Option.{option_map_or}
 use Rattle.ap_bits.specs.declared.card.Card.{Card}
@@ -21,7 +21,6 @@ use Rattle.ap_flight.specs.declared.stage.StageRegisters.{StageRegisters}
 use Rattle.ap_stage.specs.declared.node.Course.{Course}
 use Rattle.ap_border.specs.Files.{HasFiles}
 use Rattle.ap_border.specs.Flights.{HasFlights}
-use Rattle.ap_border.specs.SlowUnits.{HasSlowUnit}
 use Rattle.ap_border.specs.StageData.{HasInstr}
 use Rattle.ap_border.specs.StageShown.{AsksUnit}
 use Rattle.ap_data.specs.Stage.{IsStageOf, StagesHaveData, data_value}
