@@ -26,6 +26,7 @@ use Rattle.ap_ctl.proofs.Beside.{EachPair-at}
 use Rattle.ap_border.proofs.ControlShown.{bit_says}
 use Rattle.ap_ctl.specs.Building.{Tells}
 use Rattle.ap_ctl.specs.Lists.{EachPair}
+use Rattle.ap_ctl.specs.Nets.{AreDecoded}
 use Rattle.ap_pipe.specs.declared.table.Home.{Home}
 use Rattle.ap_signals.specs.NetRuns.{slot_name}
 use Rattle.ap_stage.specs.declared.chain.Node.{Node}
@@ -51,7 +52,7 @@ use Rattle.ap_data.specs.Stage.{HasSlot, IsStageOf}
 use Rattle.ap_data.proofs.Slotted.{slots_stand}
 use Rattle.ap_whole.specs.Homes.{number_of}
 use Rattle.ap_whole.proofs.Homes.{number_is}
-use Rattle.ap_values.specs.Served.{AreConditions, AreNamedSlots, ArePortsOf, IsNamedGround, IsServedStage, KeepsFirst, ServedStagesAreOf}
+use Rattle.ap_values.specs.Served.{AreNamedSlots, ArePortsOf, IsNamedGround, IsServedStage, KeepsFirst, ServedStagesAreOf}
 
 -- Instructions in a draft that goes on. -----------------------------------------------------------------------------------
 
@@ -137,7 +138,7 @@ width_is (w ∷ widths) (suc i) = width_is widths i
 module _ (apart : (design : Design) → IsClean design → AreApart design.word design.instrs) (lies : (design : Design) (instr : Instr) → IsClean design → Contains design.instrs instr → LiesInWord design.word instr) where
   module _ (design : Design) (cards : List Card) (d : Draft) (modules : List ModuleText) (files : HasFiles design d modules) (units : List ModuleText) (home : ℕ → Instr → ℕ → ℕ) (stage : ℕ) (base : Ground) (homes : List Home) (slots conds : List Wire) (old start served : Draft)
       (first courses : List Course) (nodes : List Node) (clean : IsClean design) (ground : IsNamedGround design d stage base) (s : IsServedStage design stage base homes slots conds old start served d units first courses nodes)
-      (conditions : AreConditions design d base.word conds) (named : AreNamedSlots d stage slots) (keeps : KeepsFirst design stage homes home) (ports : ArePortsOf design cards d modules files units nodes) where
+      (conditions : AreDecoded design d base.word conds) (named : AreNamedSlots d stage slots) (keeps : KeepsFirst design stage homes home) (ports : ArePortsOf design cards d modules files units nodes) where
     -- an instruction was started under the condition of its place
     record WasStarted (k : ℕ) (instr : Instr) (c : Course) : Type 0 where
       cond : Wire

@@ -1,5 +1,5 @@
 -- The instructions of a stage: as they were started in one draft and served in another, in a draft to which both have gone on.
-use Rattle.std.specs.Prelude.{◌≡◌, ℕ, true, List, slice_get, Some}
+use Rattle.std.specs.Prelude.{◌≡◌, ℕ, ◌+◌, ◌-◌, ◌≤◌, true, List, slice_get, Some}
 use Rattle.std.specs.List.{AllByRecursion as Each}
 use Rattle.ap_bits.specs.declared.card.Card.{Card}
 use Rattle.ap_desc.specs.Clean.{IsClean}
@@ -8,7 +8,6 @@ use Rattle.ap_desc.specs.declared.design.InPort.{InPort as Input}
 use Rattle.ap_desc.specs.declared.design.Instr.{Instr}
 use Rattle.ap_desc.specs.declared.design.Node.{Node as DesignNode}
 use Rattle.ap_desc.specs.declared.design.Reg.{Reg}
-use Rattle.ap_model.specs.Fire.{is_match}
 use Rattle.ap_model.specs.FlightLocals.{is_live_in}
 use Rattle.ap_net.specs.declared.cell.Wire.{Wire}
 use Rattle.ap_net.specs.Cells.{IsNet}
@@ -17,8 +16,7 @@ use Rattle.ap_net.specs.Modules.{ModuleText}
 use Rattle.ap_net.specs.Outside.{input_name}
 use Rattle.ap_ports.specs.Numbers.{IsNumberedNode, number_of_node}
 use Rattle.ap_signals.specs.NetRuns.{reg_name, slot_name}
-use Rattle.ap_ctl.specs.Building.{Tells}
-use Rattle.ap_ctl.specs.Lists.{EachPair}
+use Rattle.ap_ctl.specs.Nets.{AreDecoded}
 use Rattle.ap_pipe.specs.declared.table.Home.{Home}
 use Rattle.ap_stage.specs.declared.chain.Node.{Node}
 use Rattle.ap_stage.specs.declared.node.Course.{Course}
@@ -29,6 +27,7 @@ use Rattle.ap_stage.specs.Served.{port_of}
 use Rattle.ap_course.specs.Instrs.{IsGroundOf}
 use Rattle.ap_course.specs.Starts.{AreStarted}
 use Rattle.ap_border.specs.Files.{HasFiles}
+use Rattle.ap_border.specs.Flights.{HasFlights}
 use Rattle.ap_border.specs.Named.{IsNamed, IsRegisterNamed}
 use Rattle.ap_data.specs.Stage.{IsLinkNet, IsPortOf, IsStageOf}
 use Rattle.ap_whole.specs.Homes.{home_of}
@@ -52,10 +51,6 @@ pub record IsServedStage (design : Design) (stage : ℕ) (base : Ground) (homes 
   pub only : Each (UsesOnly nodes) first
   pub ports : Each (IsServedNode served base units courses) nodes
 
--- each condition tells whether the word matches the instruction of its place
-abbrev pub AreConditions : Design → Draft → Wire → List Wire → Type 0
-AreConditions design d word conds = EachPair (λ (instr : Instr) (cond : Wire). Tells d (λ r. is_match (r.read word.number) instr) cond) design.instrs conds
-
 -- the registers of the slots have the stage's names
 abbrev pub AreNamedSlots : Draft → ℕ → List Wire → Type 0
 AreNamedSlots d stage slots = (number : ℕ) (slot : Wire) → slice_get slots number ≡ Some slot → (from : Wire) × IsRegisterNamed d (slot_name stage number) 0 slot from
@@ -72,5 +67,9 @@ ArePortsOf design cards d modules files units nodes = (place : ℕ) (x : DesignN
 abbrev pub ServedStagesAreOf : Type 0
 ServedStagesAreOf = (design : Design) (cards : List Card) (d : Draft) (modules : List ModuleText) (files : HasFiles design d modules) (units : List ModuleText) (home : ℕ → Instr → ℕ → ℕ) (stage : ℕ) (base : Ground) (homes : List Home) (slots conds : List Wire) (old start served : Draft)
     (first courses : List Course) (nodes : List Node) → IsClean design → IsNamedGround design d stage base → IsServedStage design stage base homes slots conds old start served d units first courses nodes
-    → AreConditions design d base.word conds → AreNamedSlots d stage slots → KeepsFirst design stage homes home → ArePortsOf design cards d modules files units nodes
+    → AreDecoded design d base.word conds → AreNamedSlots d stage slots → KeepsFirst design stage homes home → ArePortsOf design cards d modules files units nodes
     → IsStageOf design cards d modules files units home stage base courses nodes
+
+-- The slots of a stage's flights have its names.
+abbrev pub FlightsNameSlots : Type 0
+FlightsNameSlots = (design : Design) (d : Draft) (flights : HasFlights design d) (before stage : ℕ) → before + 1 ≡ stage → stage ≤ design.stages - 1 → AreNamedSlots d stage (flights.registers stage).slots

@@ -1,5 +1,5 @@
 //! Laws of the definitions. They do nothing: their contracts are what they say.
-ghost use Rattle.ap_values.specs.Served.{ServedStagesAreOf};
+ghost use Rattle.ap_values.specs.Served.{FlightsNameSlots, ServedStagesAreOf};
 ghost use Rattle.ap_values.specs.Values.{InstrsAreByData, LeavesAreByData, TransfersAreByData, WritesAreByData};
 
 use ap_data::laws::stages_have_data;
@@ -28,3 +28,8 @@ pub fn served_stages_are_of()
     clean_is_encoded();
     agreeing_patterns_share_words();
 }
+
+/// The slots of a stage in which flights stand have the names of the stage's slots.
+pub fn flights_name_slots()
+    ensures { FlightsNameSlots }
+{}
