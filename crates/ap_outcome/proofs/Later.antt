@@ -4,10 +4,11 @@ use Rattle.std.specs.Prelude.{IfSome, slice_get}
 use Rattle.std.specs.List.{AllByRecursion as Each}
 use Rattle.ap_desc.specs.declared.design.Arg.{Arg}
 use Rattle.ap_net.specs.declared.cell.Wire.{Wire}
-use Rattle.ap_net.specs.Draft.{Draft}
+use Rattle.ap_net.specs.Draft.{Draft, Extends}
 use Rattle.ap_net.specs.Making.{Makes}
+use Rattle.ap_net.specs.Pending.{Among, IsFrom}
 use Rattle.ap_net.proofs.Facts.{Carries-Makes}
-use Rattle.ap_net.proofs.Laws.{Reads-joined, Reads-refl}
+use Rattle.ap_net.proofs.Laws.{Extends-trans, IsFrom-later, IsFrom-more, Reads-joined, Reads-refl}
 use Rattle.ap_ctl.specs.Lists.{EachPair}
 use Rattle.ap_ctl.proofs.Beside.{EachPair-weaker}
 use Rattle.ap_stage.specs.declared.node.Course.{Course}
@@ -17,11 +18,12 @@ use Rattle.ap_stage.specs.Sources.{source_numbers}
 use Rattle.ap_stage.specs.Trees.{IsShallow}
 use Rattle.ap_stage.specs.Wiring.{IsWiring, ReadsOnly}
 use Rattle.ap_stage.proofs.Coursed.{among_at}
-use Rattle.ap_stage.proofs.Followed.{old_from}
-use Rattle.ap_stage.proofs.Listed.{each_both}
+use Rattle.ap_stage.proofs.Followed.{each_then, old_from}
+use Rattle.ap_stage.proofs.Listed.{each_both, each_left, each_right}
 use Rattle.ap_stage.proofs.Shallow.{shallow_on}
 use Rattle.ap_effect.specs.declared.line.PortLine.{PortLine}
 use Rattle.ap_effect.specs.declared.write.Writer.{Writer}
+use Rattle.ap_effect.specs.Writers.{writer_numbers, writing_numbers}
 use Rattle.ap_outcome.specs.Outcomes.{IsLineWriter, IsLowWriter, IsNetOf, IsWriterFor}
 
 pub net_of_on : (a b : Draft) (ground : Ground) (c : Course) (arg : Option Arg) (o : Option Wire) → Makes a b → IsNetOf a ground c arg o → IsNetOf b ground c arg o
@@ -80,3 +82,20 @@ no_index d ground courses (l ∷ lines) (w ∷ writers) h none =
     go : (o : Option Wire) → IsNetOf d ground (h.0).course None o → o ≡ None
     go None i = refl
     go (Some x) i = absurd i
+
+-- Which nets they are.
+
+-- nets that are from some, over more of these, where more came before and after
+pub from_between : (more from : List ℕ) (a b c d : Draft) (nets : List ℕ) → ((n : ℕ) → Among more n → Among from n) → Extends a b → Extends b c → Extends c d → Each (IsFrom more b c) nets → Each (IsFrom from a d) nets
+from_between more from a b c d nets all before across after each =
+    each_then (IsFrom more b c) (IsFrom from a d) nets
+    (λ n h. IsFrom-later from more a b d n before (Extends-trans b c d across after) (old_from from a b more all) (IsFrom-more more b c d n after h)) each
+
+pub from_on : (from : List ℕ) (a b c : Draft) (nets : List ℕ) → Extends b c → Each (IsFrom from a b) nets → Each (IsFrom from a c) nets
+from_on from a b c nets after each = each_then (IsFrom from a b) (IsFrom from a c) nets (λ n h. IsFrom-more from a b c n after h) each
+
+pub writing_push : (P : ℕ → Type 0) (writers : List Writer) (w : Writer) → Each P (writing_numbers writers) → Each P (writer_numbers w) → Each P (writing_numbers (writers ++ w ∷ []))
+writing_push P [] w all one = each_both P (writer_numbers w) [] one tt
+writing_push P (x ∷ writers) w all one =
+    each_both P (writer_numbers x) (writing_numbers (writers ++ w ∷ [])) (each_left P (writer_numbers x) (writing_numbers writers) all)
+    (writing_push P writers w (each_right P (writer_numbers x) (writing_numbers writers) all) one)
