@@ -4,7 +4,7 @@ use Rattle.std.specs.List.{AllByRecursion as Each}
 use Rattle.ap_desc.specs.Designs.{width_at}
 use Rattle.ap_desc.specs.declared.design.Arg.{Arg}
 use Rattle.ap_net.specs.declared.cell.Wire.{Wire}
-use Rattle.ap_net.specs.Draft.{Draft}
+use Rattle.ap_net.specs.Draft.{Draft, Extends}
 use Rattle.ap_net.specs.Pending.{Among}
 use Rattle.ap_ctl.specs.Lists.{EachPair}
 use Rattle.ap_pipe.specs.declared.table.Home.{Home}
@@ -44,6 +44,10 @@ FitsPort ground courses bits width line = (c : Course) → slice_get courses lin
 abbrev pub LineWritersFit : Type 0
 LineWritersFit = (d : Draft) (ground : Ground) (courses : List Course) (bits : Option ℕ) (width : ℕ) (lines : List PortLine) (writers : List Writer)
     → Each (IsCourse d ground) courses → Each (FitsPort ground courses bits width) lines → AreLineWriters d ground courses lines writers → Each (IsWriter d.nets bits width) writers
+
+-- And they go on where a draft grows.
+abbrev pub LineWritersGoOn : Type 0
+LineWritersGoOn = (a b : Draft) (ground : Ground) (courses : List Course) (lines : List PortLine) (writers : List Writer) → Extends a b → AreLineWriters a ground courses lines writers → AreLineWriters b ground courses lines writers
 
 -- the local of a home has no more bits than the home's slot
 abbrev pub FitsSlot : List Course → List Wire → Home → Type 0
