@@ -8,6 +8,7 @@ use Rattle.ap_desc.specs.declared.design.Arg.{Arg}
 use Rattle.ap_net.specs.declared.cell.Wire.{Wire}
 use Rattle.ap_net.specs.Draft.{Draft}
 use Rattle.ap_net.specs.Pending.{Among}
+use Rattle.ap_net.specs.Ready.{numbers}
 use Rattle.ap_ctl.specs.Building.{IsBit}
 use Rattle.ap_ctl.specs.Lists.{EachPair}
 use Rattle.ap_pipe.specs.declared.table.Home.{Home}
@@ -91,7 +92,7 @@ row_among (None ∷ row) (suc i) w at = row_among row i w at
 row_among (Some x ∷ row) (suc i) w at = inr (row_among row i w at)
 
 sources_among : (ground : Ground) (row : List (Option Wire)) (n : ℕ) → Among (row_numbers row) n → Among (source_numbers ground row) n
-sources_among ground row n h = inr (inr (inr (among_right _ _ n (among_right _ _ n h))))
+sources_among ground row n h = inr (inr (inr (among_right (numbers ground.regs) (numbers ground.inputs ++ row_numbers row) n (among_right (numbers ground.inputs) (row_numbers row) n h))))
 
 pub leavings_among : LeavingsAreAmong
 leavings_among ground courses [] [] h = tt
@@ -102,4 +103,4 @@ leavings_among ground courses (x ∷ homes) (l ∷ list) h =
     let c : Course = one.course in
     let cond : Among (courses_numbers ground courses) l.cond.number = subst (λ (w : Wire). Among (courses_numbers ground courses) w.number) (sym one.cond) (among_at ground courses x.instr c one.at c.cond.number (inl refl)) in
     let net : Among (courses_numbers ground courses) l.net.number = among_at ground courses x.instr c one.at l.net.number (inr (sources_among ground c.row.items l.net.number (row_among c.row.items x.local l.net one.has))) in
-    (cond, net, leavings_among ground courses homes list h.1)
+    (cond, (net, leavings_among ground courses homes list h.1))

@@ -1,0 +1,20 @@
+//! Laws of the definitions. They do nothing: their contracts are what they say.
+ghost use Rattle.ap_commit.specs.Standing.{LeavingStands, TransferStands, WritesStand};
+
+use ap_whole::laws::instructions_hand_on;
+
+/// The nets that were made for a write port and for the transfer of a stage are, in a later draft that shows them, what a whole processor
+/// has of its writes and its transfer.
+pub fn effects_stand()
+    ensures writes { WritesStand }
+    ensures transfer { TransferStands }
+{
+    instructions_hand_on();
+}
+
+/// What the instructions leave to the homes of the next stage are, where its registers take it, the locals that a whole processor passes on.
+pub fn leaving_stands()
+    ensures { LeavingStands }
+{
+    instructions_hand_on();
+}
