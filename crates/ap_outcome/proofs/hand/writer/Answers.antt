@@ -65,4 +65,4 @@ returns-clause-from c =
     let guards = from_between more from _ _ _ _ (numbers (option_to_list c.in_ok-guard.guard)) (λ n h. inr h) (Extends-refl _) guard.adds.extends after.adds.extends c.in_ok-guard.ensures.from in
     let indices = from_between more from _ _ _ _ (numbers (option_to_list c.in_ok-index.index)) (λ n h. inr h) guard.adds.extends index.adds.extends value.adds.extends c.in_ok-index.ensures.from in
     let values = from_between more from _ _ _ _ (c.in_ok-value.value.number ∷ []) (λ n h. inr h) before.adds.extends value.adds.extends (Extends-refl _) (c.in_ok-value.ensures.wiring.yields.result, tt) in
-    (inl (inl refl), (values.0, each_both (IsFrom from _ _) (numbers (option_to_list c.in_ok-guard.guard)) (numbers (option_to_list c.in_ok-index.index)) guards indices))
+    (inl (inl refl), (values.0, each_both (IsFrom from c.args.out.now c.operand.new.out) (numbers (option_to_list c.in_ok-guard.guard)) (numbers (option_to_list c.in_ok-index.index)) guards indices))
