@@ -1,20 +1,14 @@
-use Rattle.std.proofs.Common.{◌<◌, ◌∷◌, get_or, length, take, None, arith}
-use Rattle.std.proofs.lemmas.List.{take_more}
-use Rattle.ap_merge.specs.declared.table.Select.TheVariants as select
-use Rattle.ap_model.specs.declared.storage.WritePort.TheVariants as port
+use Rattle.std.proofs.Common.{◌≡◌, ◌∷◌, take, Some, refl, arith}
+use Rattle.std.specs.Prelude.{slice_get}
 use Rattle.ap_net.proofs.Laws.{Makes-trans}
-use Rattle.ap_ctl.proofs.Beside.{EachPair-push, each_index}
+use Rattle.ap_ctl.proofs.Beside.{EachPair-push, each_get, item_at, take_item}
 use Rattle.ap_ctl.proofs.Bits.{IsBit-Makes}
 use Rattle.ap_stage.specs.Courses.{courses_numbers}
 use Rattle.ap_stage.proofs.Lined.{ground_on}
 use Rattle.ap_stage.proofs.Users.{courses_on}
-use Rattle.ap_commit.specs.declared.write.UsedPort.{UsedPort}
 use Rattle.ap_commit.specs.Written.{CanWritePort, IsWritten}
 use Rattle.ap_commit.proofs.Made.{port_from, ports_on}
 use Rattle.ap_commit.proofs.write.write_stage.Goals as goal
-
-abbrev no_port : UsedPort
-no_port = record { port = port.Register 0; select = select.Take 0; bits = None; width = 0 }
 
 pub write_port-requires-clause-ground : goal.write_port-requires-clause-ground
 write_port-requires-clause-ground c = ground_on _ _ c.args.ground.now c.loop-used.invariant.makes c.requires.ground
@@ -27,8 +21,11 @@ write_port-requires-clause-fires c = IsBit-Makes _ _ c.args.fires c.loop-used.in
 
 pub write_port-requires-clause-port : goal.write_port-requires-clause-port
 write_port-requires-clause-port c =
-    let inside : c.loop-used.used-index < length c.args.ports.now = omega arith in
-    each_index (CanWritePort c.args.design.now c.args.stage c.args.ground.now c.args.courses.now) c.args.ports.now c.loop-used.used-index no_port c.requires.ports inside
+    let ports = c.args.ports.now in
+    let n = c.loop-used.used-index in
+    let used = c.used-item.result in
+    let at : slice_get ports n ≡ Some used = item_at ports ports n used refl (omega arith) c.used-item.is in
+    each_get (CanWritePort c.args.design.now c.args.stage c.args.ground.now c.args.courses.now) ports n used c.requires.ports at
 
 pub loop-used-preserved : goal.loop-used-preserved
 loop-used-preserved c =
@@ -39,9 +36,9 @@ loop-used-preserved c =
     let ground = c.args.ground.now in
     let ports = c.args.ports.now in
     let n = c.loop-used.used-index in
-    let inside : n < length ports = omega arith in
-    let used : UsedPort = get_or ports n no_port in
-    let more = take_more ports n no_port inside in
+    let used = c.used-item.result in
+    let at : slice_get ports n ≡ Some used = item_at ports ports n used refl (omega arith) c.used-item.is in
+    let more = take_item ports n used at in
     let mid = c.loop-used.out in
     let new = c.write_port.new.out in
     rw (c.in_ok-push.ensures.ok, more) (record {
