@@ -1,6 +1,7 @@
 //! What a stage does besides its locals: it writes through ports, and transfers.
 #![tactic(auto)]
 
+pub mod laws;
 pub mod transfer;
 pub mod write;
 

@@ -1,7 +1,12 @@
 //! Laws of the definitions. They do nothing: their contracts are what they say.
-ghost use Rattle.ap_commit.specs.Standing.{LeavingStands, TransferStands, WritesStand};
+ghost use Rattle.ap_commit.specs.Standing.{JoinedPortsShow, LeavingStands, TransferStands, WritesStand};
 
 use ap_whole::laws::instructions_hand_on;
+
+/// Ports that were joined to the nets of a write show them.
+pub fn joined_ports_show()
+    ensures { JoinedPortsShow }
+{}
 
 /// The nets that were made for a write port and for the transfer of a stage are, in a later draft that shows them, what a whole processor
 /// has of its writes and its transfer.

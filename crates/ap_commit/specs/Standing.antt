@@ -1,14 +1,15 @@
 -- What a whole processor has of its stages' writes, transfer and locals that leave, from the nets that were made of the instructions.
-use Rattle.std.specs.Prelude.{◌≡◌, ℕ, ◌+◌, true, List, length, slice_get, Some}
+use Rattle.std.specs.Prelude.{◌≡◌, ℕ, ◌+◌, true, List, length, slice_get, Option, None, Some}
 use Rattle.ap_desc.specs.declared.design.Design.{Design}
 use Rattle.ap_desc.specs.declared.design.Instr.{Instr}
 use Rattle.ap_model.specs.FlightLocals.{is_live_in}
 use Rattle.ap_model.specs.declared.storage.WritePort.{WritePort}
+use Rattle.ap_model.specs.declared.storage.WritePort.TheVariants as port
 use Rattle.ap_net.specs.declared.cell.Wire.{Wire}
 use Rattle.ap_net.specs.Draft.{Draft, Extends}
 use Rattle.ap_net.specs.Modules.{ModuleText}
 use Rattle.ap_net.specs.Readings.{Always}
-use Rattle.ap_signals.specs.DesignOutside.{enable_name, value_name}
+use Rattle.ap_signals.specs.DesignOutside.{enable_name, index_name, value_name}
 use Rattle.ap_ctl.specs.declared.nets.ControlGiven.{ControlGiven}
 use Rattle.ap_ctl.specs.declared.nets.ControlNets.{ControlNets}
 use Rattle.ap_ctl.specs.Lists.{EachPair}
@@ -22,6 +23,8 @@ use Rattle.ap_effect.specs.declared.transfer.TransferNets.{TransferNets}
 use Rattle.ap_effect.specs.declared.write.WriteNets.{WriteNets}
 use Rattle.ap_outcome.specs.Outcomes.{IsLeavingOf}
 use Rattle.ap_border.specs.Flights.{HasFlights}
+use Rattle.ap_border.specs.Named.{IsNamed}
+use Rattle.ap_bank.specs.Joins.{JoinsPort}
 use Rattle.ap_whole.specs.Effects.{HasTransfer, HasWrites, IsIndexShown, IsShownAs, LeavesStage}
 use Rattle.ap_whole.specs.Handed.{AreInstrCourses, course_value}
 use Rattle.ap_whole.specs.Homes.{IsHomeOf}
@@ -33,6 +36,21 @@ pub record IsPortShown (design : Design) (d : Draft) (p : WritePort) (made : Wri
   pub enable : IsShownAs d (enable_name design p) made.enable
   pub index : IsIndexShown design d p made.index
   pub value : IsShownAs d (value_name design p) made.value
+
+-- nets that were declared for the port stand at its names; a register's port has no index
+abbrev pub IsIndexNamed : Design → Draft → WritePort → Option Wire → Type 0
+IsIndexNamed design d (port.Register reg) index = index ≡ None
+IsIndexNamed design d p None = ⊥
+IsIndexNamed design d p (Some index) = IsNamed d (index_name design p) index
+
+pub record IsPortNamed (design : Design) (d : Draft) (p : WritePort) (to : WriteNets) : Type 0 where
+  pub enable : IsNamed d (enable_name design p) to.enable
+  pub index : IsIndexNamed design d p to.index
+  pub value : IsNamed d (value_name design p) to.value
+
+-- Where these were joined to others, they show them in each later draft.
+abbrev pub JoinedPortsShow : Type 0
+JoinedPortsShow = (design : Design) (a b d : Draft) (p : WritePort) (to from : WriteNets) → JoinsPort to from a b → Extends b d → IsPortNamed design d p to → IsPortShown design d p from
 
 -- Nets that were made for a write port and are shown in a later draft, where the stage fires as control says, are its writes.
 abbrev pub WritesStand : Type 0
