@@ -3,7 +3,6 @@ use Rattle.std.proofs.Common.{◌≡◌, ◌≤◌, ℕ, zero, suc, List, [], �
 use Rattle.std.specs.Prelude.{IfSome, slice_get}
 use Rattle.std.specs.List.{AllByRecursion as Each}
 use Rattle.std.proofs.lemmas.Option.{same_Some}
-use Rattle.ap_desc.specs.Designs.{width_at}
 use Rattle.ap_desc.specs.declared.design.Arg.{Arg}
 use Rattle.ap_net.specs.declared.cell.Wire.{Wire}
 use Rattle.ap_net.specs.Draft.{Draft}
@@ -13,11 +12,10 @@ use Rattle.ap_ctl.specs.Building.{IsBit}
 use Rattle.ap_ctl.specs.Lists.{EachPair}
 use Rattle.ap_pipe.specs.declared.table.Home.{Home}
 use Rattle.ap_flight.specs.declared.entry.Leaving.{Leaving}
-use Rattle.ap_flight.specs.Entries.{leaving_numbers}
 use Rattle.ap_flight.specs.Stages.{FitsHome}
 use Rattle.ap_stage.specs.declared.node.Course.{Course}
 use Rattle.ap_stage.specs.declared.source.Ground.{Ground}
-use Rattle.ap_stage.specs.Courses.{IsCourse, course_numbers, courses_numbers}
+use Rattle.ap_stage.specs.Courses.{IsCourse, courses_numbers}
 use Rattle.ap_stage.specs.Sources.{row_numbers, source_numbers}
 use Rattle.ap_stage.proofs.Coursed.{among_at}
 use Rattle.ap_stage.proofs.Listed.{among_right, each_at}
@@ -25,7 +23,7 @@ use Rattle.ap_effect.specs.declared.line.PortLine.{PortLine}
 use Rattle.ap_effect.specs.declared.write.Writer.{Writer}
 use Rattle.ap_effect.specs.Writers.{IsIndex, IsWriter}
 use Rattle.ap_outcome.specs.Fitting.{FitsPort, FitsSlot, HasBits, HasIndexBits, HasPortBits, LeavingsAreAmong, LeavingsFit, LineWritersFit}
-use Rattle.ap_outcome.specs.Outcomes.{AreLineWriters, IsLeavingOf, IsLineWriter, IsNetOf}
+use Rattle.ap_outcome.specs.Outcomes.{IsLeavingOf, IsLineWriter, IsNetOf}
 
 module _ (d : Draft) (ground : Ground) (courses : List Course) (are : Each (IsCourse d ground) courses) where
   guard_fits : (c : Course) (a : Option Arg) (o : Option Wire) → IfSome a (HasBits ground c 1) → IsNetOf d ground c a o → IfSome o (IsBit d.nets)
