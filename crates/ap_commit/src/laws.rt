@@ -1,7 +1,15 @@
 //! Laws of the definitions. They do nothing: their contracts are what they say.
 ghost use Rattle.ap_commit.specs.Standing.{JoinedPortsShow, LeavingStands, TransferStands, WritesStand};
+ghost use Rattle.ap_commit.specs.Widths.{TransferLinesFit, WriteLinesFit};
 
 use ap_whole::laws::instructions_hand_on;
+
+/// The lines of a sound design that write through a port hand in what has the bits of the port, and the transfers what has those of the pc,
+/// where courses have the scopes of their instructions.
+pub fn lines_fit_ports()
+    ensures writes { WriteLinesFit }
+    ensures transfers { TransferLinesFit }
+{}
 
 /// Ports that were joined to the nets of a write show them.
 pub fn joined_ports_show()
