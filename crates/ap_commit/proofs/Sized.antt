@@ -1,5 +1,5 @@
 -- The lines of a sound design hand in what has the widths of their ports.
-use Rattle.std.proofs.Common.{◌≡◌, ℕ, zero, suc, ◌+◌, ◌^◌, ◌==◌, ◌&&◌, Bool, true, false, cond, IsTrue, IsSomeAnd, IfSome, List, [], ◌∷◌, filter_map, Option, Some, None, refl, sym, ap, subst, ◌∙◌, arith, eqb-true}
+use Rattle.std.proofs.Common.{◌≡◌, ℕ, suc, ◌+◌, ◌^◌, ◌==◌, Bool, true, false, cond, IsTrue, IsSomeAnd, IfSome, List, [], ◌∷◌, filter_map, Option, Some, None, refl, sym, ap, subst, ◌∙◌, arith, eqb-true}
 use Rattle.std.specs.Prelude.{find, option_and_then, slice_get}
 use Rattle.std.specs.List.{AllByRecursion as Each, cons_option, enumerate_from, list_all}
 use Rattle.std.specs.Option.{option_map_or}
