@@ -1,10 +1,11 @@
 -- What the instructions of a stage hand to write ports, to the pc and to the slots of the next stage, by the nets of their locals.
-use Rattle.std.specs.Prelude.{◌≡◌, List, length, slice_get, IfSome, Option, None, Some}
+use Rattle.std.specs.Prelude.{◌≡◌, ℕ, List, length, slice_get, IfSome, Option, None, Some}
 use Rattle.std.specs.List.{AllByRecursion as Each}
 use Rattle.ap_desc.specs.Designs.{IsArg}
 use Rattle.ap_desc.specs.declared.design.Arg.{Arg}
 use Rattle.ap_net.specs.declared.cell.Wire.{Wire}
 use Rattle.ap_net.specs.Draft.{Draft}
+use Rattle.ap_net.specs.Pending.{IsFrom}
 use Rattle.ap_ctl.specs.Lists.{EachPair}
 use Rattle.ap_pipe.specs.declared.table.Home.{Home}
 use Rattle.ap_flight.specs.declared.entry.Leaving.{Leaving}
@@ -14,6 +15,7 @@ use Rattle.ap_stage.specs.Sources.{HasNet, IsOperandNet}
 use Rattle.ap_stage.specs.Trees.{IsShallow}
 use Rattle.ap_effect.specs.declared.line.PortLine.{PortLine}
 use Rattle.ap_effect.specs.declared.write.Writer.{Writer}
+use Rattle.ap_effect.specs.Writers.{writing_numbers}
 
 -- the operand is one of the instruction, and has its net
 pub record CanName (c : Course) (a : Arg) : Type 0 where
@@ -60,6 +62,10 @@ pub record IsLineWriter (d : Draft) (ground : Ground) (courses : List Course) (l
 pub record AreLineWriters (d : Draft) (ground : Ground) (courses : List Course) (lines : List PortLine) (writers : List Writer) : Type 0 where
   pub each : EachPair (IsLineWriter d ground courses) lines writers
   pub low : Each (IsLowWriter d) writers
+
+-- each net of these writers is one of those, or came
+abbrev pub AreWritersFrom : List ℕ → Draft → Draft → List Writer → Type 0
+AreWritersFrom from old new writers = Each (IsFrom from old new) (writing_numbers writers)
 
 -- a local that stands in a slot of the next stage has its net
 pub record CanLeave (courses : List Course) (home : Home) : Type 0 where

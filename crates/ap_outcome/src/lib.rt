@@ -2,6 +2,7 @@
 #![tactic(auto)]
 
 pub mod hand;
+pub mod laws;
 pub mod leave;
 pub mod list;
 

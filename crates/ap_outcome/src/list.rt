@@ -6,7 +6,7 @@ ghost use Rattle.ap_stage.specs.Courses.{IsCourse, courses_numbers};
 ghost use Rattle.ap_stage.specs.Sources.{IsGround};
 ghost use Rattle.ap_stage.specs.Wiring.{ReadsOnly};
 ghost use Rattle.ap_effect.specs.Writers.{writer_of};
-ghost use Rattle.ap_outcome.specs.Outcomes.{AreLineWriters, HasCourse};
+ghost use Rattle.ap_outcome.specs.Outcomes.{AreLineWriters, AreWritersFrom, HasCourse};
 
 use crate::hand::writer;
 use ap_bits::{Items, NoMemory};
@@ -30,6 +30,8 @@ pub fn writers(
     requires courses { Each (IsCourse out.old ground.now) courses.now }
     requires lines { Each (HasCourse courses.now) lines.now }
     ensures writers { IfOk result (AreLineWriters out.new ground.now courses.now lines.now) }
+    ensures from { IfOk result (AreWritersFrom (courses_numbers ground.now courses.now)
+        out.old out.new) }
     ensures reads { OnOk result
         (ReadsOnly (courses_numbers ground.now courses.now) out.old out.new) }
 {
@@ -71,6 +73,8 @@ pub fn transfers(
     requires none { Each (λ (l : PortLine). l.index ≡ None) lines.now }
     ensures transfers { IfOk result (λ list.
         AreLineWriters out.new ground.now courses.now lines.now (map writer_of list)) }
+    ensures from { IfOk result (λ list. AreWritersFrom (courses_numbers ground.now courses.now)
+        out.old out.new (map writer_of list)) }
     ensures reads { OnOk result
         (ReadsOnly (courses_numbers ground.now courses.now) out.old out.new) }
 {

@@ -1,10 +1,15 @@
-use Rattle.std.proofs.Common.{refl}
-use Rattle.ap_net.proofs.Laws.{Makes-trans}
+use Rattle.std.proofs.Common.{[], ◌∷◌, inl, inr, refl}
+use Rattle.ap_net.proofs.Laws.{Extends-refl, Makes-trans}
+use Rattle.ap_net.specs.Pending.{IsFrom}
+use Rattle.ap_net.specs.Ready.{numbers}
+use Rattle.std.specs.Prelude.{option_to_list}
+use Rattle.ap_stage.specs.Courses.{course_numbers}
 use Rattle.ap_stage.specs.Sources.{source_numbers}
 use Rattle.ap_stage.proofs.Followed.{only_later}
+use Rattle.ap_stage.proofs.Listed.{each_both}
 use Rattle.ap_stage.proofs.Lined.{ground_on}
 use Rattle.ap_stage.proofs.Users.{course_on}
-use Rattle.ap_outcome.proofs.Later.{low_net_on, net_of_on, wiring_low, wiring_only}
+use Rattle.ap_outcome.proofs.Later.{from_between, low_net_on, net_of_on, wiring_low, wiring_only}
 use Rattle.ap_outcome.proofs.hand.writer.Goals as goal
 
 pub optional-requires-2-clause-ground : goal.optional-requires-2-clause-ground
@@ -45,3 +50,19 @@ returns-clause-reads c =
     let guard = c.in_ok-guard.ensures.reads in
     let index = c.in_ok-index.ensures.reads in
     only_later from _ _ _ guard.reads guard.makes (only_later from _ _ _ index.reads index.makes (wiring_only from _ _ c.in_ok-value.value c.in_ok-value.ensures.wiring))
+
+pub returns-clause-from : goal.returns-clause-from
+returns-clause-from c =
+    let ground = c.args.ground.now in
+    let course = c.args.course.now in
+    let more = source_numbers ground course.row.items in
+    let from = course_numbers ground course in
+    let guard = c.in_ok-guard.ensures.reads.makes in
+    let index = c.in_ok-index.ensures.reads.makes in
+    let value = c.in_ok-value.ensures.wiring.makes in
+    let before = Makes-trans _ _ _ guard index in
+    let after = Makes-trans _ _ _ index value in
+    let guards = from_between more from _ _ _ _ (numbers (option_to_list c.in_ok-guard.guard)) (λ n h. inr h) (Extends-refl _) guard.adds.extends after.adds.extends c.in_ok-guard.ensures.from in
+    let indices = from_between more from _ _ _ _ (numbers (option_to_list c.in_ok-index.index)) (λ n h. inr h) guard.adds.extends index.adds.extends value.adds.extends c.in_ok-index.ensures.from in
+    let values = from_between more from _ _ _ _ (c.in_ok-value.value.number ∷ []) (λ n h. inr h) before.adds.extends value.adds.extends (Extends-refl _) (c.in_ok-value.ensures.wiring.yields.result, tt) in
+    (inl (inl refl), (values.0, each_both (IsFrom from c.args.out.now c.operand.new.out) (numbers (option_to_list c.in_ok-guard.guard)) (numbers (option_to_list c.in_ok-index.index)) guards indices))
