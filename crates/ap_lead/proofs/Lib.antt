@@ -2,3 +2,4 @@ pub mod Declaring
 pub mod Numbered
 pub mod UsedPorts
 pub mod ShownWrites
+pub mod Stored

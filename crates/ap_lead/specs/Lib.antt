@@ -1,2 +1,3 @@
 pub mod Declaring
 pub mod Writes
+pub mod Storing

@@ -4,6 +4,7 @@
 
 pub mod declare;
 pub mod laws;
+pub mod store;
 pub mod writes;
 
 pub use ap_bits::NoMemory;
