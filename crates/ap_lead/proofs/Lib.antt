@@ -3,3 +3,4 @@ pub mod Numbered
 pub mod UsedPorts
 pub mod ShownWrites
 pub mod Stored
+pub mod Led

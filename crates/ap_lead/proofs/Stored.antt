@@ -20,13 +20,13 @@ use Rattle.ap_bank.specs.Placed.{NeedsAsFile}
 use Rattle.ap_ctl.specs.Lists.{EachFrom}
 use Rattle.ap_ctl.proofs.Beside.{EachFrom-push, EachFrom-weaker}
 use Rattle.ap_front.specs.declared.ports.GroupPorts.{GroupPorts}
-use Rattle.ap_lead.specs.Storing.{FilesNeed, HasNoFiles, IsStored, StoresFile, StoresFiles, index_numbers}
+use Rattle.ap_lead.specs.Storing.{FilesAreKnown, FilesNeed, HasNoFiles, IsStored, StoresFile, StoresFiles, index_numbers}
 
-among_left : (xs ys : List ℕ) (n : ℕ) → Among xs n → Among (xs ++ ys) n
+pub among_left : (xs ys : List ℕ) (n : ℕ) → Among xs n → Among (xs ++ ys) n
 among_left [] ys n h = absurd h
 among_left (x ∷ xs) ys n h = ⊎_elim (λ e. inl e) (λ k. inr (among_left xs ys n k)) h
 
-among_right : (xs ys : List ℕ) (n : ℕ) → Among ys n → Among (xs ++ ys) n
+pub among_right : (xs ys : List ℕ) (n : ℕ) → Among ys n → Among (xs ++ ys) n
 among_right [] ys n h = h
 among_right (x ∷ xs) ys n h = inr (among_right xs ys n h)
 
@@ -91,3 +91,16 @@ later_differs (x ∷ files) (suc i) (suc k) f g h lt at_i at_k = later_differs f
 pub files_left : (design : Design) (groups : List GroupPorts) (i : ℕ) (nets : FileNets) (b c : Draft) → AreDistinct (map file_module_name design.files) → StoresFile design groups i nets b c → HasNoFiles design b i → HasNoFiles design c (i + 1)
 files_left design groups i nets b c distinct s h = λ k g le at.
     s.banks.names (file_part g) (IsNotNumbered-other (file_part g) refl) (later_differs design.files i k s.f g distinct (omega (arith, le)) s.at at) (h k g (omega (arith, le)) at)
+
+-- The modules behind others.
+
+get_behind : {X : Type 0} (xs : List X) (k n : ℕ) → slice_get (drop k xs) n ≡ slice_get xs (k + n)
+get_behind [] zero n = refl
+get_behind [] (suc k) n = refl
+get_behind (x ∷ xs) zero n = let here : n ≡ 0 + n = omega arith in ap (slice_get (x ∷ xs)) here
+get_behind (x ∷ xs) (suc k) n = let here : suc (k + n) ≡ suc k + n = omega arith in get_behind xs k n ∙ ap (slice_get (x ∷ xs)) here
+
+pub files_are_known : FilesAreKnown
+files_are_known knows design modules places kinds h = λ file f at.
+    let k = h.files file f at in
+    record { whole = k.whole; at = get_behind modules kinds file ∙ k.at; named = k.named; has = k.has }

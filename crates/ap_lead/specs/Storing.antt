@@ -1,5 +1,5 @@
 -- The storages of a processor's top: its registers take what is written, and its files are instances.
-use Rattle.std.specs.Prelude.{◌≡◌, ◌≢◌, ◌⊎◌, ℕ, ◌+◌, ◌<◌, ◌≤◌, List, flat_map, length, slice_get, Some}
+use Rattle.std.specs.Prelude.{◌≡◌, ◌≢◌, ◌⊎◌, ℕ, ◌<◌, ◌≤◌, List, drop, flat_map, length, slice_get, Some}
 use Rattle.std.specs.List.{AllByRecursion as Each}
 use Rattle.ap_desc.specs.declared.design.Design.{Design}
 use Rattle.ap_desc.specs.declared.design.File.{File}
@@ -18,14 +18,19 @@ use Rattle.ap_bank.specs.Banked.{BanksNew}
 use Rattle.ap_bank.specs.Placed.{NeedsAsFile}
 use Rattle.ap_bank.specs.Regs.{DrivesRegs}
 use Rattle.ap_front.specs.declared.ports.GroupPorts.{GroupPorts}
-use Rattle.ap_parts.specs.Known.{StandsThere}
+use Rattle.ap_parts.specs.Known.{AreKnown, Knows, StandsThere}
 use Rattle.ap_lead.specs.declared.store.Lead.{Lead}
 use Rattle.ap_lead.specs.Declaring.{Declares}
 use Rattle.ap_lead.specs.Writes.{file_writes, reg_writes}
 
--- the module of each file stands behind those of the kinds
-abbrev pub KnowsFiles : Design → List ModuleText → ℕ → Type 0
-KnowsFiles design modules kinds = (file : ℕ) (f : File) → slice_get design.files file ≡ Some f → StandsThere modules (kinds + file) (file_module_name f) (file_ports f)
+-- these are the modules of the files, in their order
+abbrev pub KnowsFiles : Design → List ModuleText → Type 0
+KnowsFiles design modules = (file : ℕ) (f : File) → slice_get design.files file ≡ Some f → StandsThere modules file (file_module_name f) (file_ports f)
+
+-- of all modules those that stand behind the ones of kinds
+abbrev pub FilesAreKnown : Type 0
+FilesAreKnown = (knows : Knows) (design : Design) (modules : List ModuleText) (places : List ℕ) (kinds : ℕ) → AreKnown knows design modules places kinds
+    → KnowsFiles design (drop kinds modules)
 
 -- no net or instance has the name of a file from this one on
 abbrev pub HasNoFiles : Design → Draft → ℕ → Type 0

@@ -110,7 +110,6 @@ fn store_nth(
     design: &Design,
     ports: &Ports,
     modules: &[Module],
-    kinds: usize,
     number: usize,
     out: &mut Builder,
 ) -> Result<FileNets, NoMemory>
@@ -118,7 +117,7 @@ fn store_nth(
     requires few { length design.now.files ≤ 8 }
     requires there { number < length design.now.files }
     requires ports { HasPorts design.now out.old ports.now }
-    requires known { KnowsFiles design.now modules.now kinds }
+    requires known { KnowsFiles design.now modules.now }
     requires top { out.old.name ≡ codes "top" }
     requires fresh { CanFresh out.old }
     requires names { HasNoFiles design.now out.old number }
@@ -126,24 +125,23 @@ fn store_nth(
         StoresFile design.now ports.now.groups number nets out.old out.new) }
 {
     let file = file_at(design, number);
-    let whole = module_at(modules, kinds + number);
+    let whole = module_at(modules, number);
     let nets = store_file(design, ports, number as u32, file, whole, out)?;
     Ok(nets)
 }
 
-/// Places all files, each an instance of its module, over the outputs that show their writes. The modules of the files stand behind so many
-/// others. After an error the builder is good for nothing but to be dropped.
+/// Places all files, each an instance of its module, over the outputs that show their writes. The modules are those of the files, in their
+/// order. After an error the builder is good for nothing but to be dropped.
 pub fn store_files(
     design: &Design,
     ports: &Ports,
     modules: &[Module],
-    kinds: usize,
     out: &mut Builder,
 ) -> Result<Items<FileNets>, NoMemory>
     requires clean { IsClean design.now }
     requires few { length design.now.files ≤ 8 }
     requires ports { HasPorts design.now out.old ports.now }
-    requires known { KnowsFiles design.now modules.now kinds }
+    requires known { KnowsFiles design.now modules.now }
     requires top { out.old.name ≡ codes "top" }
     requires fresh { CanFresh out.old }
     requires names { HasNoFiles design.now out.old 0 }
@@ -153,31 +151,30 @@ pub fn store_files(
 {
     let mut made = Items::new(out.allocator());
     for number in 0..design.files.len() {
-        let nets = store_nth(design, ports, modules, kinds, number, out)?;
+        let nets = store_nth(design, ports, modules, number, out)?;
         made.push(nets)?;
     }
     Ok(made)
 }
 
 /// The first part of `top`, in a builder that has nothing but its name: its ports, the registers of its front, those of the description,
-/// driven by the outputs that show their writes, and its files. The modules of the files stand behind so many others. After an error the
+/// driven by the outputs that show their writes, and its files. The modules are those of the files, in their order. After an error the
 /// builder is good for nothing but to be dropped.
 pub fn make_lead(
     design: &Design,
     slots: &SlotTable,
     modules: &[Module],
-    kinds: usize,
     out: &mut Builder,
 ) -> Result<Lead, NoMemory>
     requires clean { IsClean design.now }
     requires slots { AreSlotsOf design.now slots.now }
-    requires known { KnowsFiles design.now modules.now kinds }
+    requires known { KnowsFiles design.now modules.now }
     requires empty { out.old ≡ blank (codes "top") }
     ensures { IfOk result (λ made. Leads design.now slots.now.stages made out.new) }
 {
     let declared = declare(design, slots, out)?;
     out.rules();
     drive(design, &declared.ports, declared.regs.as_slice(), out)?;
-    let files = store_files(design, &declared.ports, modules, kinds, out)?;
+    let files = store_files(design, &declared.ports, modules, out)?;
     Ok(Lead { declared, files })
 }
