@@ -125,7 +125,8 @@ lead_gives_files design stages made a d knows cards modules clean parts h e file
     let within = slice_get_within design.files file f at in
     let count = h.count in
     let nets = there made.files file (omega (arith, within, count)) in
-    let stored : IsStored design made.declared.ports.groups a file nets.0 = EachFrom-at (IsStored design made.declared.ports.groups a) 0 made.files h.stores.each file nets.0 nets.1 in
+    let first : 0 + file ≡ file = omega arith in
+    let stored : IsStored design made.declared.ports.groups a file nets.0 = subst (λ n. IsStored design made.declared.ports.groups a n nets.0) first (EachFrom-at (IsStored design made.declared.ports.groups a) 0 made.files h.stores.each file nets.0 nets.1) in
     let s = stored.stores in
     let same : s.f ≡ f = some_same (sym s.at ∙ at) in
     let m = parts.files file f at in
@@ -177,7 +178,7 @@ read_among : (known : List ℕ) (registers : List Wire) (writes : List (Option R
 read_among known [] writes h g = tt
 read_among known (r ∷ registers) [] h g = tt
 read_among known (r ∷ registers) (None ∷ writes) h g = (h.0, read_among known registers writes h.1 g.1)
-read_among known (r ∷ registers) (Some w ∷ writes) h g = (g.0.0, g.0.1, h.0, read_among known registers writes h.1 g.1)
+read_among known (r ∷ registers) (Some w ∷ writes) h g = (g.0.0, (g.0.1, (h.0, read_among known registers writes h.1 g.1)))
 
 abbrev PortAmong : List ℕ → GroupPorts → Type 0
 PortAmong known g = Among known g.enable.number × Among known g.value.number
@@ -219,13 +220,16 @@ leads_follow by design stages made new h needs =
       files = h.stores.extends.instances.0;
       grows = (
         record { extends = registers_extend a plan; instances = sym (append-nil a.instances); ports = ports_registers a plan },
-        record {
-          extends = subst (Extends b) (sym h.declares.is) (regs_extend b design.regs);
-          instances = ap (λ (x : Draft). x.instances) h.declares.is ∙ sym (append-nil b.instances);
-          ports = ap (λ (x : Draft). ports_among x.nets) h.declares.is ∙ ports_regs b design.regs;
-        },
-        record { extends = h.drives.extends; instances = h.drives.instances ∙ sym (append-nil h.first.instances); ports = h.drives.ports },
-        record { extends = h.stores.extends; instances = h.stores.extends.instances.1; ports = h.stores.same_ports },
-        tt,
+        (
+          record {
+            extends = subst (Extends b) (sym h.declares.is) (regs_extend b design.regs);
+            instances = ap (λ (x : Draft). x.instances) h.declares.is ∙ sym (append-nil b.instances);
+            ports = ap (λ (x : Draft). ports_among x.nets) h.declares.is ∙ ports_regs b design.regs;
+          },
+          (
+            record { extends = h.drives.extends; instances = h.drives.instances ∙ sym (append-nil h.first.instances); ports = h.drives.ports },
+            (record { extends = h.stores.extends; instances = h.stores.extends.instances.1; ports = h.stores.same_ports }, tt),
+          ),
+        ),
       );
     }
