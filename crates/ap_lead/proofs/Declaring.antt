@@ -1,13 +1,11 @@
 -- Ports and registers, declared one after the other.
-use Rattle.std.proofs.Common.{◌≡◌, ◌≢◌, ℕ, ◌==◌, false, List, [], ◌∷◌, map, refl, sym, ap, subst, ◌∙◌, append-nil}
-use Rattle.std.specs.Prelude.{codes, length}
+use Rattle.std.proofs.Common.{◌≡◌, ℕ, ◌==◌, false, List, [], ◌∷◌, map, refl, sym, ap, append-nil}
+use Rattle.std.specs.Prelude.{codes}
 use Rattle.std.specs.List.{AllByRecursion as Each}
 use Rattle.std.proofs.lemmas.Bool.{eqb-false}
-use Rattle.ap_desc.specs.declared.design.Design.{Design}
 use Rattle.ap_desc.specs.declared.design.Reg.{Reg}
 use Rattle.ap_net.specs.declared.cell.Wire.{Wire}
-use Rattle.ap_net.specs.Draft.{Draft, Extends, names_of}
-use Rattle.ap_net.specs.Names.{IsNew}
+use Rattle.ap_net.specs.Draft.{Draft, Extends}
 use Rattle.ap_signals.specs.NetRuns.{file_part, reg_name, unit_part, valid_name}
 use Rattle.ap_flight.specs.Stages.{IsOpen}
 use Rattle.ap_flight.proofs.Driving.{open_later}

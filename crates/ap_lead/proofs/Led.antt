@@ -1,5 +1,5 @@
 -- What follows from the first part of a top.
-use Rattle.std.proofs.Common.{◌≡◌, ◌⊎◌, ⊎_elim, inl, inr, ℕ, zero, suc, ◌+◌, ◌<◌, ◌≤◌, List, [], ◌∷◌, ◌++◌, length, map, Option, Some, None, refl, sym, ap, subst, ◌∙◌, arith, append-nil}
+use Rattle.std.proofs.Common.{◌≡◌, ◌⊎◌, ⊎_elim, inl, inr, ℕ, zero, suc, ◌+◌, ◌<◌, ◌≤◌, List, [], ◌∷◌, ◌++◌, length, Option, Some, None, refl, sym, ap, subst, ◌∙◌, arith, append-nil}
 use Rattle.std.specs.Prelude.{slice_get}
 use Rattle.std.specs.List.{AllByRecursion as Each, range_with_len}
 use Rattle.std.specs.Option.{option_map}
@@ -10,20 +10,18 @@ use Rattle.ap_desc.specs.declared.design.File.{File}
 use Rattle.ap_desc.specs.declared.design.Reg.{Reg}
 use Rattle.ap_model.specs.declared.storage.WritePort.{WritePort}
 use Rattle.ap_model.specs.declared.storage.WritePort.TheVariants as port
-use Rattle.ap_model.specs.Ports.{is_same_port}
 use Rattle.ap_model.proofs.ListLemmas.{each_all, found_keeps}
 use Rattle.ap_net.specs.declared.cell.Wire.{Wire}
 use Rattle.ap_net.specs.Draft.{Draft, Extends}
 use Rattle.ap_net.specs.Modules.{ModuleText, module_named, ports_among}
-use Rattle.ap_net.specs.Pending.{Among, CameAmong}
+use Rattle.ap_net.specs.Pending.{Among}
 use Rattle.ap_net.specs.Ready.{numbers}
 use Rattle.ap_net.proofs.Drafts.{Extends-trans}
-use Rattle.ap_net.proofs.Lists.{All-from, All-join, All-map, All-unmap, some_same}
+use Rattle.ap_net.proofs.Lists.{All-from, All-map, All-unmap, some_same}
 use Rattle.ap_net.proofs.Parts.{All-named}
-use Rattle.ap_ctl.specs.Lists.{EachFrom, EachPair}
 use Rattle.ap_ctl.proofs.Beside.{EachFrom-at, EachFrom-weaker}
 use Rattle.ap_flight.specs.declared.plan.Planned.{Planned}
-use Rattle.ap_flight.specs.Planned.{register_wires, with_registers}
+use Rattle.ap_flight.specs.Planned.{register_wires}
 use Rattle.ap_flight.proofs.Plans.{ports_registers, registers_count}
 use Rattle.ap_bank.specs.declared.files.FileWrite.{FileWrite}
 use Rattle.ap_bank.specs.declared.bank.FileNets.{FileNets}
@@ -31,14 +29,14 @@ use Rattle.ap_bank.specs.declared.regs.RegWrite.{RegWrite}
 use Rattle.ap_bank.specs.Banked.{BanksNew}
 use Rattle.ap_bank.specs.Border.{IsShownWrite}
 use Rattle.ap_bank.specs.FileBorder.{IsNamedPort}
-use Rattle.ap_bank.specs.Regs.{IsReg, reg_wires, regs_numbers, with_regs}
+use Rattle.ap_bank.specs.Regs.{IsReg, reg_wires, regs_numbers}
 use Rattle.ap_bank.proofs.BorderGiven.{IsNamed-later, IsReg-later}
 use Rattle.ap_bank.proofs.Declared.{ports_regs, regs_count}
 use Rattle.ap_bank.proofs.Driven.{takes_later}
 use Rattle.ap_store.specs.FilePorts.{file_module_name}
 use Rattle.ap_front.specs.declared.ports.GroupPorts.{GroupPorts}
 use Rattle.ap_front.specs.NewNames.{ported}
-use Rattle.ap_front.specs.Opened.{front_plan, front_wires}
+use Rattle.ap_front.specs.Opened.{front_plan}
 use Rattle.ap_front.proofs.Opened.{registers_extend}
 use Rattle.ap_front.proofs.Porting.{pairs_weaker}
 use Rattle.ap_lead.specs.Declaring.{opened}
@@ -213,7 +211,7 @@ leads_follow by design stages made new h needs =
       registered = (
         regs_numbers regs (reg_writes groups (length design.regs)),
         read_among known regs (reg_writes groups (length design.regs)) (All-unmap (Among known) (λ (w : Wire). w.number) regs (All-from (Among (numbers regs)) (Among known) (λ n k. among_left (numbers regs) (output_numbers groups) n k) (numbers regs) (each_self (numbers regs))))
-        (All-map (WriteAmong known) (reg_write groups) (range_with_len 0 (length design.regs)) (each_all (λ reg. WriteAmong known (reg_write groups reg)) (λ reg. write_among known groups outs (port.Register reg)) (range_with_len 0 (length design.regs)))),
+            (All-map (WriteAmong known) (reg_write groups) (range_with_len 0 (length design.regs)) (each_all (λ reg. WriteAmong known (reg_write groups reg)) (λ reg. write_among known groups outs (port.Register reg)) (range_with_len 0 (length design.regs)))),
         h.drives.came by,
       );
       filed = h.stores.came by needs;

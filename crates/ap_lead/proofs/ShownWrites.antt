@@ -1,10 +1,9 @@
 -- The outputs of write ports, found among those of the groups.
-use Rattle.std.proofs.Common.{◌≡◌, ◌≢◌, ℕ, zero, suc, ◌+◌, ◌<◌, ◌≤◌, ◌==◌, ◌&&◌, Bool, true, false, if◌then◌else◌, List, [], ◌∷◌, length, map, Option, Some, None, refl, sym, ap, subst, ◌∙◌, arith}
+use Rattle.std.proofs.Common.{◌≡◌, ◌≢◌, ℕ, suc, ◌+◌, ◌<◌, ◌==◌, ◌&&◌, Bool, true, false, if◌then◌else◌, List, [], ◌∷◌, length, map, Option, Some, None, refl, sym, ap, subst, ◌∙◌, arith}
 use Rattle.std.specs.Prelude.{codes, find, slice_get}
 use Rattle.std.specs.List.{AllByRecursion as Each, range_with_len}
 use Rattle.std.specs.Option.{option_map, option_map_or}
 use Rattle.std.proofs.lemmas.Option.{slice_get_within}
-use Rattle.ap_desc.specs.Clean.{IsClean}
 use Rattle.ap_desc.specs.Designs.{index_bits}
 use Rattle.ap_desc.specs.declared.design.Design.{Design}
 use Rattle.ap_desc.specs.declared.design.File.{File}
@@ -15,14 +14,12 @@ use Rattle.ap_model.specs.Ports.{is_same_port, is_used, write_count, write_group
 use Rattle.ap_model.proofs.ListLemmas.{each_in_range, found_keeps}
 use Rattle.ap_model.proofs.PortsOnce.{same_port}
 use Rattle.ap_net.specs.declared.cell.Wire.{Wire}
-use Rattle.ap_net.specs.declared.net.ModuleNet.{ModuleNet}
 use Rattle.ap_net.specs.Draft.{Draft, IsKept}
 use Rattle.ap_net.specs.Outside.{Group, group_name, output}
 use Rattle.ap_net.proofs.Lists.{All-map}
 use Rattle.ap_signals.specs.DesignOutside.{file_group, group_of, reg_group}
 use Rattle.ap_border.specs.Named.{IsNamed}
-use Rattle.ap_ctl.specs.Building.{IsBit}
-use Rattle.ap_ctl.specs.Lists.{EachFrom, EachPair}
+use Rattle.ap_ctl.specs.Lists.{EachPair}
 use Rattle.ap_bank.specs.declared.files.FileWrite.{FileWrite}
 use Rattle.ap_bank.specs.declared.regs.RegWrite.{RegWrite}
 use Rattle.ap_bank.specs.Banked.{IsPort as IsFilePort}
@@ -30,8 +27,7 @@ use Rattle.ap_bank.specs.Border.{IsShownWrite}
 use Rattle.ap_bank.specs.FileBorder.{IsNamedPort}
 use Rattle.ap_bank.specs.Regs.{IsReg, IsRegWrite}
 use Rattle.ap_front.specs.declared.ports.GroupPorts.{GroupPorts}
-use Rattle.ap_front.specs.declared.ports.Ports.{Ports}
-use Rattle.ap_front.specs.Ports.{AreGroupPorts, ArePortsOf, HasPorts, IsIndex, IsPort}
+use Rattle.ap_front.specs.Ports.{AreGroupPorts, ArePortsOf, IsIndex}
 use Rattle.ap_front.proofs.Grouping.{cell_group, register_group}
 use Rattle.ap_front.proofs.PortNets.{port_is_net, port_named}
 use Rattle.ap_lead.specs.Writes.{FileWritesAreShown, IsShown, RegWritesAreShown, file_write, file_write_at, file_write_of, outputs_of, reg_write, reg_write_of}

@@ -1,13 +1,12 @@
 -- Files that are placed one after the other.
-use Rattle.std.proofs.Common.{◌≡◌, ◌≢◌, ◌⊎◌, inl, inr, ⊎_elim, ℕ, zero, suc, ◌+◌, ◌<◌, ◌≤◌, List, [], ◌∷◌, ◌++◌, length, map, drop, flat_map, Some, refl, sym, ap, subst, ◌∙◌, arith, append-nil}
+use Rattle.std.proofs.Common.{◌≡◌, ◌≢◌, ◌⊎◌, inl, inr, ⊎_elim, ℕ, zero, suc, ◌+◌, ◌<◌, ◌≤◌, List, [], ◌∷◌, ◌++◌, length, map, drop, Some, refl, sym, ap, subst, ◌∙◌, arith, append-nil}
 use Rattle.std.specs.Prelude.{slice_get}
-use Rattle.std.specs.List.{AllByRecursion as Each}
 use Rattle.std.proofs.lemmas.Bool.{cases_lt}
 use Rattle.ap_desc.specs.declared.design.Design.{Design}
 use Rattle.ap_desc.specs.declared.design.File.{File}
 use Rattle.ap_model.proofs.ListLemmas.{flat_map_both}
-use Rattle.ap_net.specs.Draft.{CanFresh, Draft, Extends, names_of}
-use Rattle.ap_net.specs.Names.{AreDistinct, IsNew}
+use Rattle.ap_net.specs.Draft.{CanFresh, Draft, Extends}
+use Rattle.ap_net.specs.Names.{AreDistinct}
 use Rattle.ap_net.specs.Pending.{Among}
 use Rattle.ap_net.specs.Ready.{Dependence, Ready, ReadyAfter, numbers}
 use Rattle.ap_net.proofs.Drafts.{Extends-refl, Extends-trans}
@@ -17,7 +16,6 @@ use Rattle.ap_signals.specs.NetRuns.{file_part}
 use Rattle.ap_store.specs.FilePorts.{file_module_name}
 use Rattle.ap_bank.specs.declared.bank.FileNets.{FileNets}
 use Rattle.ap_bank.specs.Placed.{NeedsAsFile}
-use Rattle.ap_ctl.specs.Lists.{EachFrom}
 use Rattle.ap_ctl.proofs.Beside.{EachFrom-push, EachFrom-weaker}
 use Rattle.ap_front.specs.declared.ports.GroupPorts.{GroupPorts}
 use Rattle.ap_lead.specs.Storing.{FilesAreKnown, FilesNeed, HasNoFiles, IsStored, StoresFile, StoresFiles, index_numbers}

@@ -3,7 +3,7 @@ use Rattle.std.specs.Prelude.{◌≡◌, ℕ, List, length}
 use Rattle.ap_desc.specs.declared.design.Design.{Design}
 use Rattle.ap_desc.specs.declared.design.File.{File}
 use Rattle.ap_desc.specs.declared.design.Unit.{Unit as Resource}
-use Rattle.ap_net.specs.Draft.{Draft, CanFresh, Extends, names_of}
+use Rattle.ap_net.specs.Draft.{Draft, CanFresh, names_of}
 use Rattle.ap_net.specs.Names.{IsNew}
 use Rattle.ap_pipe.specs.declared.table.StageSlots.{StageSlots}
 use Rattle.ap_signals.specs.NetRuns.{file_part, unit_part, valid_name}

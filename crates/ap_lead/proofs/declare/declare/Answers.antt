@@ -1,15 +1,13 @@
 use Rattle.std.proofs.Common.{◌≡◌, length, sym, ap, subst, ◌∙◌}
-use Rattle.std.specs.List.{AllByRecursion as Each}
 use Rattle.ap_net.specs.Draft.{Draft}
-use Rattle.ap_net.specs.Ready.{numbers}
-use Rattle.ap_flight.specs.Planned.{IsNewIn, KeepsOther, register_wires, with_registers}
+use Rattle.ap_flight.specs.Planned.{register_wires, with_registers}
 use Rattle.ap_bank.specs.Regs.{reg_wires, with_regs}
 use Rattle.ap_front.specs.NewNames.{HasNone, HasNoneLeft, ported}
 use Rattle.ap_front.specs.Opened.{AreOpen, NamesFront, front_plan, front_wires}
 use Rattle.ap_front.specs.Ports.{HasPorts}
 use Rattle.ap_front.proofs.Opened.{names_go_on, registers_extend}
 use Rattle.ap_front.proofs.PortNets.{ports_go_on}
-use Rattle.ap_lead.specs.Declaring.{declared, opened}
+use Rattle.ap_lead.specs.Declaring.{opened}
 use Rattle.ap_lead.proofs.Declaring.{regs_extend, regs_leave_names, regs_new, still_open}
 use Rattle.ap_lead.proofs.declare.declare.Goals as goal
 
