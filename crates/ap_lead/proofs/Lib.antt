@@ -1,0 +1,6 @@
+pub mod Declaring
+pub mod Numbered
+pub mod UsedPorts
+pub mod ShownWrites
+pub mod Stored
+pub mod Led

@@ -1,0 +1,4 @@
+pub mod Declaring
+pub mod Writes
+pub mod Storing
+pub mod Leading
