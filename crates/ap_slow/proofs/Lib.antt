@@ -1,2 +1,4 @@
 pub mod Asked
+pub mod Lates
+pub mod PlacedOne
 pub mod Users

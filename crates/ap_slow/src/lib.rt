@@ -3,5 +3,6 @@
 
 pub mod ask;
 pub mod laws;
+pub mod place;
 
 pub use ap_bits::NoMemory;
