@@ -71,8 +71,11 @@ fresh_extends d width = record {
   instances = ([], sym (append-nil d.instances));
 }
 
+pub extends_long : (a b : Draft) → Extends a b → length a.nets ≤ length b.nets
+extends_long a b e = let l : length b.nets ≡ length a.nets + length e.nets.0 = ap length e.nets.1 ∙ length-append a.nets e.nets.0 in omega arith
+
 pub late_none : (d : Draft) → CanFresh d → DeclaresLate [] [] d d
-late_none d fresh = record { wide = refl; each = tt; apart = tt; adds = adds_none d fresh; instances = refl; came = λ n low high. absurd (omega arith) }
+late_none d fresh = record { wide = refl; each = tt; above = tt; apart = tt; adds = adds_none d fresh; instances = refl; came = λ n low high. absurd (omega arith) }
 
 pub late_more : (widths : List ℕ) (width : ℕ) (made : List Wire) (w : Wire) (a b c : Draft) → DeclaresLate widths made a b → c ≡ with_fresh b width → w ≡ next_wire b width → IsLate c w → StayLate b c → CanFresh c → KeepsNew b c
     → DeclaresLate (widths ++ width ∷ []) (made ++ w ∷ []) a c
@@ -91,12 +94,16 @@ late_more widths width made w a b c h is wire late stay fresh names =
     record {
       wide = widths_push made w ∙ ap (λ l. l ++ w.width ∷ []) h.wide ∙ ap (λ (x : Wire). widths ++ x.width ∷ []) wire;
       each = All-join (IsLate c) made (w ∷ []) (All-from (IsLate b) (IsLate c) stay made h.each) (late, tt);
+      above = All-join (λ (x : Wire). length a.nets ≤ x.number) made (w ∷ []) h.above (longer number, tt);
       apart = subst NoneTwice (sym (numbers_push made w)) (apart_push (numbers made) w.number h.apart (subst (λ n. Each (λ x. x ≢ n) (numbers made)) (sym number) (late_below b made h.each)));
       adds = adds_more [] [] a b c h.adds one;
       instances = ap (λ (d : Draft). d.instances) is ∙ h.instances;
       came = λ n low high. subst (λ ns. Among ns n) (sym (numbers_push made w)) (either n low (subst (λ k. n < k) long high) number (cases_lt n (length b.nets)));
     }
   where
+    longer : w.number ≡ length b.nets → length a.nets ≤ w.number
+    longer e = let l = extends_long a b h.adds.extends in omega arith
+
     either : (n : ℕ) → length a.nets ≤ n → n < length b.nets + 1 → w.number ≡ length b.nets → (n < length b.nets) ⊎ (length b.nets ≤ n) → Among (numbers made ++ w.number ∷ []) n
     either n low high number (inl lt) = among_front (numbers made) (w.number ∷ []) n (h.came n low lt)
     either n low high number (inr le) = let same : w.number ≡ n = omega arith in subst (λ k. Among (numbers made ++ w.number ∷ []) k) same (among_back (numbers made) (w.number ∷ []) w.number (inl refl))

@@ -1,4 +1,5 @@
 pub mod Asked
 pub mod Lates
+pub mod PlacedAll
 pub mod PlacedOne
 pub mod Users

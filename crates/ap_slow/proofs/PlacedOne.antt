@@ -1,6 +1,6 @@
 -- One unit that is placed.
 use Rattle.std.proofs.Common.{◌≡◌, ◌≢◌, ℕ, suc, ◌+◌, ◌<◌, ◌≤◌, ◌&&◌, true, List, [], ◌∷◌, ◌++◌, length, map, refl, sym, ap, subst, ◌∙◌, arith, inl, inr, length-append}
-use Rattle.std.specs.Prelude.{◌⊎◌, nat_le, slice_get, Some}
+use Rattle.std.specs.Prelude.{◌⊎◌, codes, nat_le, slice_get, Some}
 use Rattle.std.specs.Char.{is_ascii_alphanumeric}
 use Rattle.std.specs.List.{AllByRecursion as Each, list_all}
 use Rattle.std.proofs.lemmas.Bool.{and_parts, cases_lt, le-leb, leb-true, or_left}
@@ -11,23 +11,37 @@ use Rattle.ap_net.specs.declared.cell.Wire.{Wire}
 use Rattle.ap_net.specs.declared.net.Instance.{Instance}
 use Rattle.ap_net.specs.declared.net.Port.{Port}
 use Rattle.ap_net.specs.Cells.{IsNet}
-use Rattle.ap_net.specs.Draft.{Adds, Draft}
+use Rattle.ap_net.specs.Draft.{Draft, Extends}
 use Rattle.ap_net.specs.Late.{IsLate, Joins}
-use Rattle.ap_net.specs.Modules.{Connects, ModuleText}
+use Rattle.ap_net.specs.Modules.{Connects, IsModule, ModuleText}
 use Rattle.ap_net.specs.Names.{IsNetName, is_name_byte}
 use Rattle.ap_net.specs.Pending.{Among}
 use Rattle.ap_net.specs.Placing.{Places, instance_in, merged, output_widths, wires_from}
+use Rattle.ap_net.specs.Readings.{Carries}
 use Rattle.ap_net.specs.Ready.{Dependence, ReadyAfter, numbers}
-use Rattle.ap_net.proofs.Laws.{IsNet-Adds}
+use Rattle.ap_net.proofs.Among.{ports_within}
+use Rattle.ap_net.proofs.Laws.{Carries-Extends, ReadyAfter-Extends, stays}
 use Rattle.ap_net.proofs.Lists.{All-from, get_end}
 use Rattle.ap_signals.specs.NetRuns.{unit_part}
 use Rattle.ap_unit.specs.declared.slow.SlowInputs.{SlowInputs}
 use Rattle.ap_unit.specs.declared.slow.SlowOutputs.{SlowOutputs}
 use Rattle.ap_unit.specs.Slow.{AreSlowInputs, IsReadyByUnit, input_nets, output_nets, slow_needs}
-use Rattle.ap_unit.specs.Units.{ports_by}
+use Rattle.ap_unit.specs.Units.{in_port, ports_by}
 use Rattle.ap_slow.specs.declared.place.SlowPlaced.{SlowPlaced}
-use Rattle.ap_slow.specs.Placed.{AddsParts, DeclaresLate, PlacesUnit, StandsUnit, late_nets, port_nets}
+use Rattle.ap_slow.specs.Placed.{AddsParts, DeclaresLate, IsFit, PlacesUnit, StandsUnit, late_nets, port_nets}
 use Rattle.ap_slow.proofs.Lates.{adds_more}
+
+-- the widths of the module's ports
+pub first_width : (m : ModuleText) (ps : List Port) (p : Port) (select width : ℕ) → ps ≡ m.ports → m.ports ≡ ports_by WidthPlusOne select width → slice_get ps 0 ≡ Some p → p.width ≡ select
+first_width m ps p select width same is at =
+    let e : Some p ≡ Some (in_port (codes "sel") select) = sym at ∙ ap (λ (l : List Port). slice_get l 0) (same ∙ is) in
+    let one : p ≡ in_port (codes "sel") select = cc in
+    ap (λ (q : Port). q.width) one
+
+pub fit_ports : (m : ModuleText) (select width : ℕ) → IsModule m → m.ports ≡ ports_by WidthPlusOne select width → IsFit select × IsFit width
+fit_ports m select width h is =
+    let w : Each (λ (p : Port). (1 ≤ p.width) × (p.width ≤ 64)) (ports_by WidthPlusOne select width) = subst (Each (λ (p : Port). (1 ≤ p.width) × (p.width ≤ 64))) is (ports_within m h.wired.widths) in
+    (record { low = w.0.0; high = w.0.1 }, record { low = w.1.0.0; high = w.1.0.1 })
 
 -- the late wires are what a unit of several cycles can stand over
 pub late_slow : (a b : Draft) (select width : ℕ) (i : SlowInputs) → DeclaresLate (select ∷ width ∷ width ∷ 1 ∷ 1 ∷ []) (input_nets i) a b → AreSlowInputs b.nets i
@@ -49,14 +63,40 @@ late_widths a b select width i h =
     let e : i.sel.width ∷ i.a.width ∷ i.b.width ∷ i.go.width ∷ i.adv.width ∷ [] ≡ select ∷ width ∷ width ∷ 1 ∷ 1 ∷ [] = h.wide in
     (cc, cc)
 
-inputs_later : (a b : Draft) (i : SlowInputs) → Adds a b → AreSlowInputs a.nets i → AreSlowInputs b.nets i
+net_later : (a b : Draft) (w : Wire) → Extends a b → IsNet a.nets w → IsNet b.nets w
+net_later a b w e h = (Carries-Extends e anything).net
+  where
+    anything : Carries a w.width (λ r x. Unit {0}) w
+    anything = record { net = h; wide = refl; means = record { holds = λ r s. tt } }
+
+inputs_later : (a b : Draft) (i : SlowInputs) → Extends a b → AreSlowInputs a.nets i → AreSlowInputs b.nets i
 inputs_later a b i e h = record {
-  sel = IsNet-Adds a b i.sel e h.sel;
-  operands = record { first = IsNet-Adds a b i.a e h.operands.first; second = IsNet-Adds a b i.b e h.operands.second; same = h.operands.same };
-  go = IsNet-Adds a b i.go e h.go;
+  sel = net_later a b i.sel e h.sel;
+  operands = record { first = net_later a b i.a e h.operands.first; second = net_later a b i.b e h.operands.second; same = h.operands.same };
+  go = net_later a b i.go e h.go;
   go_bit = h.go_bit;
-  adv = IsNet-Adds a b i.adv e h.adv;
+  adv = net_later a b i.adv e h.adv;
   adv_bit = h.adv_bit;
+}
+
+-- a unit that stands stands in each later draft
+pub stands_later : (a b : Draft) (u : Resource) (m : ModuleText) (x : SlowPlaced) → Extends a b → StandsUnit u m a x → StandsUnit u m b x
+stands_later a b u m x e h = record {
+  k = h.k;
+  of = h.of;
+  placed = stays a.instances b.instances e.instances h.k h.of h.placed;
+  named = h.named;
+  joined = h.joined;
+  connects = h.connects;
+  ports = h.ports;
+  wide = h.wide;
+  inputs = inputs_later a b x.inputs e h.inputs;
+  busy = net_later a b x.outputs.busy e h.busy;
+  bit = h.bit;
+  y = net_later a b x.outputs.y e h.y;
+  result = h.result;
+  busy_ready = λ by needs. ReadyAfter-Extends by a b (x.inputs.go.number ∷ []) x.outputs.busy.number e (h.busy_ready by needs);
+  y_ready = λ by needs. ReadyAfter-Extends by a b (x.inputs.sel.number ∷ x.inputs.a.number ∷ x.inputs.b.number ∷ x.inputs.go.number ∷ []) x.outputs.y.number e (h.y_ready by needs);
 }
 
 module _ (u : Resource) (m : ModuleText) (x : SlowPlaced) (select : ℕ) (a b c : Draft) (late : DeclaresLate (select ∷ u.width ∷ u.width ∷ 1 ∷ 1 ∷ []) (input_nets x.inputs) a b)
@@ -108,7 +148,7 @@ module _ (u : Resource) (m : ModuleText) (x : SlowPlaced) (select : ℕ) (a b c 
           connects = connects;
           ports = has_ports;
           wide = wide;
-          inputs = inputs_later b c x.inputs places.adds (late_slow a b select u.width x.inputs late);
+          inputs = inputs_later b c x.inputs joins.extends (late_slow a b select u.width x.inputs late);
           busy = nets.0;
           bit = ap (λ (o : SlowOutputs). o.busy.width) outs;
           y = nets.1;
@@ -117,6 +157,7 @@ module _ (u : Resource) (m : ModuleText) (x : SlowPlaced) (select : ℕ) (a b c 
           y_ready = y;
         };
         late = All-from (IsLate b) (IsLate c) joins.late (late_nets x) late.each;
+        above = late.above;
         apart = late.apart;
         adds = adds_more [] (unit_part u ∷ []) a b c late.adds adds;
         instances = count;

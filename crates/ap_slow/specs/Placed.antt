@@ -1,4 +1,5 @@
 -- Units of several cycles in a processor's top: instances over wires that are driven later.
+use Rattle.std.specs.Option.{option_map_or}
 use Rattle.std.specs.Prelude.{◌≡◌, ◌≢◌, ◌⊎◌, ℕ, ◌+◌, ◌<◌, ◌≤◌, List, [], ◌∷◌, ◌++◌, flat_map, length, map, slice_get, Some}
 use Rattle.std.specs.List.{AllByRecursion as Each}
 use Rattle.ap_bits.specs.declared.card.Latency.TheVariants.{WidthPlusOne}
@@ -18,7 +19,6 @@ use Rattle.ap_signals.specs.NetRuns.{unit_part}
 use Rattle.ap_unit.specs.declared.slow.SlowInputs.{SlowInputs}
 use Rattle.ap_unit.specs.Slow.{AreSlowInputs, IsReadyByUnit, input_nets, slow_needs}
 use Rattle.ap_unit.specs.Units.{ports_by}
-use Rattle.ap_ctl.specs.Given.{slow_units}
 use Rattle.ap_slow.specs.declared.place.SlowPlaced.{SlowPlaced}
 
 -- the wires of a unit that are driven later, and all nets at its ports, in order
@@ -46,10 +46,16 @@ pub record IsFit (width : ℕ) : Type 0 where
 pub record DeclaresLate (widths : List ℕ) (made : List Wire) (old new : Draft) : Type 0 where
   pub wide : map (λ (w : Wire). w.width) made ≡ widths
   pub each : Each (IsLate new) made
+  pub above : Each (λ (w : Wire). length old.nets ≤ w.number) made
   pub apart : NoneTwice (numbers made)
   pub adds : AddsParts [] old new
   pub instances : new.instances ≡ old.instances
   pub came : CameAmong (numbers made) old new
+
+-- the module has the ports of a unit of several cycles
+pub record HasSlowPorts (u : Resource) (m : ModuleText) : Type 0 where
+  pub select : ℕ
+  pub ports : m.ports ≡ ports_by WidthPlusOne select u.width
 
 -- The unit stands in the draft: an instance of the module, over these nets. busy follows from go alone, y from all inputs but adv.
 pub record StandsUnit (u : Resource) (whole : ModuleText) (d : Draft) (x : SlowPlaced) : Type 0 where
@@ -73,7 +79,56 @@ pub record StandsUnit (u : Resource) (whole : ModuleText) (d : Draft) (x : SlowP
 pub record PlacesUnit (u : Resource) (whole : ModuleText) (x : SlowPlaced) (old new : Draft) : Type 0 where
   pub stands : StandsUnit u whole new x
   pub late : Each (IsLate new) (late_nets x)
+  pub above : Each (λ (w : Wire). length old.nets ≤ w.number) (late_nets x)
   pub apart : NoneTwice (numbers (late_nets x))
   pub adds : AddsParts (unit_part u ∷ []) old new
   pub instances : length new.instances ≡ length old.instances + 1
   pub came : (by : Dependence) → by.needs whole.name ≡ slow_needs → (n : ℕ) → length old.nets ≤ n → n < length new.nets → Among (numbers (late_nets x)) n ⊎ ReadyAfter by new (numbers (late_nets x)) n
+
+-- All units.
+
+-- the module of a unit of several cycles stands at the unit's place
+pub record StandsAt (modules : List ModuleText) (places : List ℕ) (unit : ℕ) (whole : ModuleText) : Type 0 where
+  pub place : ℕ
+  pub there : slice_get places unit ≡ Some place
+  pub at : slice_get modules place ≡ Some whole
+
+pub record HasModule (modules : List ModuleText) (places : List ℕ) (unit : ℕ) (u : Resource) : Type 0 where
+  pub whole : ModuleText
+  pub stands : StandsAt modules places unit whole
+  pub has : HasSlowPorts u whole
+
+abbrev pub HaveModules : Design → List ModuleText → List ℕ → Type 0
+HaveModules design modules places = (unit : ℕ) (u : Resource) → slice_get design.units unit ≡ Some u → 1 < u.latency → HasModule modules places unit u
+
+-- the outputs of their modules depend on their inputs as those of such units do
+abbrev pub NeedAsSlow : Design → List ModuleText → List ℕ → Dependence → Type 0
+NeedAsSlow design modules places by = (unit : ℕ) (u : Resource) (whole : ModuleText) → slice_get design.units unit ≡ Some u → 1 < u.latency → StandsAt modules places unit whole → by.needs whole.name ≡ slow_needs
+
+-- the unit stands in the draft, an instance of its own module
+pub record IsPlaced (design : Design) (modules : List ModuleText) (places : List ℕ) (d : Draft) (x : SlowPlaced) : Type 0 where
+  pub resource : Resource
+  pub at : slice_get design.units x.unit ≡ Some resource
+  pub slow : 1 < resource.latency
+  pub whole : ModuleText
+  pub there : StandsAt modules places x.unit whole
+  pub stands : StandsUnit resource whole d x
+
+-- the name of the instance of a unit
+abbrev pub part_name : Design → ℕ → List ℕ
+part_name design unit = option_map_or unit_part (slice_get design.units unit) []
+
+-- The instances of all names that units of several cycles have may come.
+abbrev pub AreNewParts : Design → Draft → Type 0
+AreNewParts design d = (unit : ℕ) (u : Resource) → slice_get design.units unit ≡ Some u → IsNew (unit_part u) (names_of d)
+
+-- These units were placed, in this order, over wires that are driven later, no two of them one. What else came is ready once these are.
+pub record PlacesUnits (design : Design) (modules : List ModuleText) (places : List ℕ) (units : List ℕ) (made : List SlowPlaced) (old new : Draft) : Type 0 where
+  pub are : map (λ (x : SlowPlaced). x.unit) made ≡ units
+  pub each : Each (IsPlaced design modules places new) made
+  pub late : Each (IsLate new) (flat_map late_nets made)
+  pub above : Each (λ (w : Wire). length old.nets ≤ w.number) (flat_map late_nets made)
+  pub apart : NoneTwice (numbers (flat_map late_nets made))
+  pub adds : AddsParts (map (part_name design) units) old new
+  pub instances : length new.instances ≡ length old.instances + length made
+  pub came : (by : Dependence) → NeedAsSlow design modules places by → (n : ℕ) → length old.nets ≤ n → n < length new.nets → Among (numbers (flat_map late_nets made)) n ⊎ ReadyAfter by new (numbers (flat_map late_nets made)) n

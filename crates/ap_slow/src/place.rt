@@ -1,15 +1,15 @@
 //! Units of several cycles: instances over wires that are driven later.
 ghost use Rattle.std.specs.Prelude.{◌≡◌, ◌∷◌, [], IfOk, codes};
-ghost use Rattle.ap_bits.specs.declared.card.Latency.TheVariants.{WidthPlusOne};
+ghost use Rattle.ap_desc.specs.Clean.{IsClean};
 ghost use Rattle.ap_net.specs.Draft.{CanFresh, names_of};
 ghost use Rattle.ap_net.specs.Names.{IsNew};
 ghost use Rattle.ap_signals.specs.NetRuns.{unit_part};
 ghost use Rattle.ap_unit.specs.Slow.{input_nets};
-ghost use Rattle.ap_unit.specs.Units.{ports_by};
-ghost use Rattle.ap_slow.specs.Placed.{DeclaresLate, IsFit, PlacesUnit};
+ghost use Rattle.ap_ctl.specs.Given.{slow_units};
+ghost use Rattle.ap_slow.specs.Placed.{AreNewParts, DeclaresLate, HasSlowPorts, HaveModules, IsFit, PlacesUnit, PlacesUnits};
 
-use ap_bits::NoMemory;
-use ap_desc::design::Unit;
+use ap_bits::{Items, NoMemory};
+use ap_desc::design::{Design, Unit};
 use ap_net::builder::Builder;
 use ap_net::module::Module;
 use ap_unit::slow::{SlowInputs, SlowOutputs, place_slow};
@@ -41,25 +41,24 @@ fn late_inputs(out: &mut Builder, select: u32, width: u32) -> Result<SlowInputs,
 
 /// Places a unit of several cycles: an instance of its module, named `u_` and the unit's name, over wires that are driven later. After an
 /// error the builder is good for nothing but to be dropped.
-pub fn place_unit(
+fn place_unit(
     out: &mut Builder,
     number: u32,
     unit: &Unit,
     whole: &Module,
-    select: u32,
 ) -> Result<SlowPlaced, NoMemory>
     requires top { out.old.name ≡ codes "top" }
     requires fresh { CanFresh out.old }
     requires name { IsNew (unit_part unit.now) (names_of out.old) }
-    requires ports { whole.now.ports ≡ ports_by WidthPlusOne select unit.now.width }
-    requires select { IsFit select }
-    requires width { IsFit unit.now.width }
+    requires has { HasSlowPorts unit.now whole.now }
     ensures number { IfOk result (λ made. made.unit ≡ number) }
     ensures places { IfOk result (λ made.
         PlacesUnit unit.now whole.now made out.old out.new) }
 {
+    whole.rules();
     let alloc = out.allocator();
     let name = format!(in alloc; "u_{}", unit.name.as_str())?;
+    let select = whole.ports()[0].width;
     let inputs = late_inputs(out, select, unit.width)?;
     let outputs = place_slow(out, name.as_bytes(), whole, inputs)?;
     Ok(SlowPlaced {
@@ -67,4 +66,31 @@ pub fn place_unit(
         inputs,
         outputs,
     })
+}
+
+/// Places each unit that takes several cycles, in the order of their declaration: an instance of the module at its place, over wires that
+/// are driven later. After an error the builder is good for nothing but to be dropped.
+pub fn place_slow_units(
+    out: &mut Builder,
+    design: &Design,
+    modules: &[Module],
+    places: &[usize],
+) -> Result<Items<SlowPlaced>, NoMemory>
+    requires top { out.old.name ≡ codes "top" }
+    requires fresh { CanFresh out.old }
+    requires clean { IsClean design.now }
+    requires modules { HaveModules design.now modules.now places.now }
+    requires names { AreNewParts design.now out.old }
+    ensures { IfOk result (λ made.
+        PlacesUnits design.now modules.now places.now (slow_units design.now) made out.old out.new) }
+{
+    let mut made = Items::new(out.allocator());
+    for (number, unit) in design.units.as_slice().iter().enumerate() {
+        if unit.latency > 1 {
+            let whole = &modules[places[number]];
+            let placed = place_unit(out, number as u32, unit, whole)?;
+            made.push(placed)?;
+        }
+    }
+    Ok(made)
 }
