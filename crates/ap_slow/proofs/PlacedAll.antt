@@ -4,7 +4,7 @@ use Rattle.std.specs.Prelude.{◌⊎◌, nat_lt, not, slice_get, Option, Some, N
 use Rattle.std.specs.Option.{option_map_or}
 use Rattle.std.specs.List.{AllByRecursion as Each, list_all, list_any, range_with_len}
 use Rattle.std.specs.Str.{bytes_eq}
-use Rattle.std.proofs.lemmas.Bool.{and_parts, cases_lt}
+use Rattle.std.proofs.lemmas.Bool.{and_parts, cases_lt, ltb-true}
 use Rattle.ap_desc.specs.Clean.{IsClean}
 use Rattle.ap_desc.specs.Parts.{file_names, format_names, input_names, mem_names, names_of_fields, reg_names, unit_names}
 use Rattle.ap_desc.specs.Sound.{are_distinct, names_of_parts}
@@ -27,7 +27,7 @@ use Rattle.ap_net.proofs.Wired.{number-IsNet}
 use Rattle.ap_signals.specs.NetRuns.{unit_part}
 use Rattle.ap_ctl.specs.Given.{is_slow_unit}
 use Rattle.ap_slow.specs.declared.place.SlowPlaced.{SlowPlaced}
-use Rattle.ap_slow.specs.Placed.{AddsParts, AreNewParts, IsPlaced, NeedAsSlow, PlacesUnit, PlacesUnits, StandsAt, late_nets, part_name}
+use Rattle.ap_slow.specs.Placed.{AddsParts, AreNewParts, IsPlaced, NeedAsSlow, PlacesOwn, PlacesUnit, PlacesUnits, StandsAt, late_nets, part_name}
 use Rattle.ap_slow.proofs.Lates.{adds_more, adds_none, among_back, among_front, extends_long}
 use Rattle.ap_slow.proofs.PlacedOne.{stands_later}
 
@@ -199,3 +199,25 @@ parts_differ design clean n u at low (suc k) le = pick (is_slow_unit design low)
 pub name_new : (design : Design) (modules : List ModuleText) (places : List ℕ) (made : List SlowPlaced) (n : ℕ) (u : Resource) (a b : Draft) → IsClean design → PlacesUnits design modules places (slow_before design n) made a b → AreNewParts design a
     → slice_get design.units n ≡ Some u → IsNew (unit_part u) (names_of b)
 name_new design modules places made n u a b clean h new at = h.adds.names (unit_part u) (IsNotNumbered-other (unit_part u) refl) (parts_differ design clean n u at 0 n (omega arith)) (new n u at)
+
+-- One step of the loop.
+
+slow_is : (design : Design) (n : ℕ) (u : Resource) → slice_get design.units n ≡ Some u → is_slow_unit design n ≡ nat_lt 1 u.latency
+slow_is design n u at = ap (λ (o : Option Resource). nat_lt 1 (option_map_or (λ (x : Resource). x.latency) o 0)) at
+
+none_after : (xs : List ℕ) → xs ++ [] ≡ xs
+none_after [] = refl
+none_after (x ∷ xs) = ap (λ l. x ∷ l) (none_after xs)
+
+pub more_placed : (design : Design) (modules : List ModuleText) (places : List ℕ) (made : List SlowPlaced) (x : SlowPlaced) (n : ℕ) (u : Resource) (a b c : Draft) → PlacesUnits design modules places (slow_before design n) made a b → x.unit ≡ n
+    → slice_get design.units n ≡ Some u → nat_lt 1 u.latency ≡ true → PlacesOwn modules places n u x b c → PlacesUnits design modules places (slow_before design (n + 1)) (made ++ x ∷ []) a c
+more_placed design modules places made x n u a b c h same at slow p =
+    let next : slow_before design (n + 1) ≡ slow_before design n ++ n ∷ [] = slow_more design n ∙ ap (λ s. slow_before design n ++ (if s then n ∷ [] else [])) (slow_is design n u at ∙ slow) in
+    subst (λ units. PlacesUnits design modules places units (made ++ x ∷ []) a c) (sym next)
+    (placed_push design modules places (slow_before design n) made x n u p.whole a b c h same at (ltb-true 1 u.latency slow) p.stands p.placed)
+
+pub more_kept : (design : Design) (modules : List ModuleText) (places : List ℕ) (made : List SlowPlaced) (n : ℕ) (u : Resource) (a b : Draft) → PlacesUnits design modules places (slow_before design n) made a b → slice_get design.units n ≡ Some u
+    → nat_lt 1 u.latency ≡ false → PlacesUnits design modules places (slow_before design (n + 1)) made a b
+more_kept design modules places made n u a b h at quick =
+    let next : slow_before design (n + 1) ≡ slow_before design n = slow_more design n ∙ ap (λ s. slow_before design n ++ (if s then n ∷ [] else [])) (slow_is design n u at ∙ quick) ∙ none_after (slow_before design n) in
+    subst (λ units. PlacesUnits design modules places units made a b) (sym next) h

@@ -1,6 +1,7 @@
 -- One unit that is placed.
 use Rattle.std.proofs.Common.{◌≡◌, ◌≢◌, ℕ, suc, ◌+◌, ◌<◌, ◌≤◌, ◌&&◌, true, List, [], ◌∷◌, ◌++◌, length, map, refl, sym, ap, subst, ◌∙◌, arith, inl, inr, length-append}
 use Rattle.std.specs.Prelude.{◌⊎◌, codes, nat_le, slice_get, Some}
+use Rattle.std.proofs.lemmas.Option.{slice_get_within}
 use Rattle.std.specs.Char.{is_ascii_alphanumeric}
 use Rattle.std.specs.List.{AllByRecursion as Each, list_all}
 use Rattle.std.proofs.lemmas.Bool.{and_parts, cases_lt, le-leb, leb-true, or_left}
@@ -28,7 +29,7 @@ use Rattle.ap_unit.specs.declared.slow.SlowOutputs.{SlowOutputs}
 use Rattle.ap_unit.specs.Slow.{AreSlowInputs, IsReadyByUnit, input_nets, output_nets, slow_needs}
 use Rattle.ap_unit.specs.Units.{in_port, ports_by}
 use Rattle.ap_slow.specs.declared.place.SlowPlaced.{SlowPlaced}
-use Rattle.ap_slow.specs.Placed.{AddsParts, DeclaresLate, IsFit, PlacesUnit, StandsUnit, late_nets, port_nets}
+use Rattle.ap_slow.specs.Placed.{AddsParts, DeclaresLate, HasModule, HasSlowPorts, IsFit, PlacesUnit, StandsAt, StandsUnit, late_nets, port_nets}
 use Rattle.ap_slow.proofs.Lates.{adds_more}
 
 -- the widths of the module's ports
@@ -184,3 +185,18 @@ part_is_name u h =
     let short : length u.name ≤ 32 = leb-true (length u.name) 32 few.1 in
     let fits : nat_le (suc (suc (length u.name))) 100 ≡ true = le-leb (suc (suc (length u.name))) 100 (omega arith) in
     rw (alphanumeric_bytes u.name bytes.1, fits) refl
+
+-- the module at the unit's place
+pub own_module : (modules : List ModuleText) (places : List ℕ) (unit p : ℕ) (u : Resource) (m : ModuleText) → (h : HasModule modules places unit u) → slice_get places unit ≡ Some p → slice_get modules p ≡ Some m → HasSlowPorts u m × StandsAt modules places unit m
+own_module modules places unit p u m h there at =
+    let e : Some p ≡ Some h.stands.place = sym there ∙ h.stands.there in
+    let same : h.stands.place ≡ p = cc in
+    let f : Some h.whole ≡ Some m = sym (subst (λ q. slice_get modules q ≡ Some h.whole) same h.stands.at) ∙ at in
+    let is : h.whole ≡ m = cc in
+    (subst (HasSlowPorts u) is h.has, record { place = p; there = there; at = at })
+
+pub place_low : (modules : List ModuleText) (places : List ℕ) (unit p : ℕ) (u : Resource) → (h : HasModule modules places unit u) → slice_get places unit ≡ Some p → p < length modules
+place_low modules places unit p u h there =
+    let e : Some p ≡ Some h.stands.place = sym there ∙ h.stands.there in
+    let same : h.stands.place ≡ p = cc in
+    subst (λ q. q < length modules) same (slice_get_within modules h.stands.place h.whole h.stands.at)

@@ -37,8 +37,8 @@ stage_is design unit stage o h e = ap (λ x. unwrap_or x 0) (h ∙ e)
 -- What is found is a stage whose lines use the unit.
 
 pub record FindsFirst (p : ℕ → Bool) (low count found : ℕ) : Type 0 where
-  pub low : low ≤ found
-  pub high : found < low + count
+  pub above : low ≤ found
+  pub below : found < low + count
   pub used : p found ≡ true
 
 finds : (p : ℕ → Bool) (low count found : ℕ) → find p (range_with_len low count) ≡ Some found → FindsFirst p low count found
@@ -49,12 +49,12 @@ finds p low (suc count) found e = go (p low) refl (finds p (low + 1) count found
     go true h rest =
         let here : Some low ≡ Some found = sym (ap (λ b. if b then Some low else find p (range_with_len (low + 1) count)) h) ∙ e in
         let same : low ≡ found = cc in
-        record { low = omega arith; high = omega arith; used = subst (λ n. p n ≡ true) same h }
+        record { above = omega arith; below = omega arith; used = subst (λ n. p n ≡ true) same h }
     go false h rest =
         let f = rest (sym (ap (λ b. if b then Some low else find p (range_with_len (low + 1) count)) h) ∙ e) in
-        let l = f.low in
-        let k = f.high in
-        record { low = omega arith; high = omega arith; used = f.used }
+        let l = f.above in
+        let k = f.below in
+        record { above = omega arith; below = omega arith; used = f.used }
 
 finds_some : (p : ℕ → Bool) (low count n : ℕ) → low ≤ n → n < low + count → p n ≡ true → find p (range_with_len low count) ≡ None → ⊥
 finds_some p low zero n le lt h e = absurd (omega arith)
@@ -91,8 +91,8 @@ stage_uses design unit s e = go (find (λ stage. is_used_in design stage unit) (
     go (Some n) q =
         let same : n ≡ suc s = sym (ap (λ o. unwrap_or o 0) q) ∙ e in
         let f = finds (λ stage. is_used_in design stage unit) 1 (design.stages - 1) n q in
-        let l = f.low in
-        let h = f.high in
+        let l = f.above in
+        let h = f.below in
         record { low = omega arith; high = omega arith; used = subst (λ k. is_used_in design k unit ≡ true) same f.used }
 
 pub used_somewhere : (design : Design) (unit stage : ℕ) → 1 ≤ stage → stage ≤ design.stages - 1 → is_used_in design stage unit ≡ true → unit_stage design unit ≡ 0 → ⊥
@@ -103,5 +103,5 @@ used_somewhere design unit stage low high used e = go (find (λ s. is_used_in de
     go (Some n) q =
         let same : n ≡ 0 = sym (ap (λ o. unwrap_or o 0) q) ∙ e in
         let f = finds (λ s. is_used_in design s unit) 1 (design.stages - 1) n q in
-        let l = f.low in
+        let l = f.above in
         absurd (omega arith)

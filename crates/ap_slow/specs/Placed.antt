@@ -98,6 +98,12 @@ pub record HasModule (modules : List ModuleText) (places : List ℕ) (unit : ℕ
   pub stands : StandsAt modules places unit whole
   pub has : HasSlowPorts u whole
 
+-- and the unit was placed as an instance of it
+pub record PlacesOwn (modules : List ModuleText) (places : List ℕ) (unit : ℕ) (u : Resource) (x : SlowPlaced) (old new : Draft) : Type 0 where
+  pub whole : ModuleText
+  pub stands : StandsAt modules places unit whole
+  pub placed : PlacesUnit u whole x old new
+
 abbrev pub HaveModules : Design → List ModuleText → List ℕ → Type 0
 HaveModules design modules places = (unit : ℕ) (u : Resource) → slice_get design.units unit ≡ Some u → 1 < u.latency → HasModule modules places unit u
 

@@ -95,19 +95,14 @@ fn drive_used(
         out.old out.new) }
 {
     let place = (stage - 1) as usize;
-    let valid = nets.valid.as_slice()[place];
-    let conditions = &nets.decoded.as_slice()[place];
-    let hold = nets.hold.as_slice()[0];
-    let asks = asks_unit(
-        out,
-        design.instrs.as_slice(),
-        conditions.as_slice(),
-        stage,
-        placed.unit,
-        valid,
-    )?;
+    let valids = nets.valid.as_slice();
+    let decoded = nets.decoded.as_slice();
+    let holds = nets.hold.as_slice();
+    let instrs = design.instrs.as_slice();
+    let conditions = decoded[place].as_slice();
+    let asks = asks_unit(out, instrs, conditions, stage, placed.unit, valids[place])?;
     out.cell(placed.inputs.go, Cell::Copy(asks))?;
-    out.cell(placed.inputs.adv, Cell::Not(hold))?;
+    out.cell(placed.inputs.adv, Cell::Not(holds[0]))?;
     Ok(())
 }
 

@@ -1,12 +1,12 @@
 //! Units of several cycles: instances over wires that are driven later.
-ghost use Rattle.std.specs.Prelude.{◌≡◌, ◌∷◌, [], IfOk, codes};
+ghost use Rattle.std.specs.Prelude.{◌≡◌, ◌∷◌, [], IfOk, codes, nat_lt};
 ghost use Rattle.ap_desc.specs.Clean.{IsClean};
 ghost use Rattle.ap_net.specs.Draft.{CanFresh, names_of};
 ghost use Rattle.ap_net.specs.Names.{IsNew};
 ghost use Rattle.ap_signals.specs.NetRuns.{unit_part};
 ghost use Rattle.ap_unit.specs.Slow.{input_nets};
 ghost use Rattle.ap_ctl.specs.Given.{slow_units};
-ghost use Rattle.ap_slow.specs.Placed.{AreNewParts, DeclaresLate, HasSlowPorts, HaveModules, IsFit, PlacesUnit, PlacesUnits};
+ghost use Rattle.ap_slow.specs.Placed.{AreNewParts, DeclaresLate, HasModule, HasSlowPorts, HaveModules, IsFit, PlacesOwn, PlacesUnit, PlacesUnits};
 
 use ap_bits::{Items, NoMemory};
 use ap_desc::design::{Design, Unit};
@@ -58,7 +58,8 @@ fn place_unit(
     whole.rules();
     let alloc = out.allocator();
     let name = format!(in alloc; "u_{}", unit.name.as_str())?;
-    let select = whole.ports()[0].width;
+    let ports = whole.ports();
+    let select = ports[0].width;
     let inputs = late_inputs(out, select, unit.width)?;
     let outputs = place_slow(out, name.as_bytes(), whole, inputs)?;
     Ok(SlowPlaced {
@@ -66,6 +67,36 @@ fn place_unit(
         inputs,
         outputs,
     })
+}
+
+/// Places a unit of several cycles as an instance of the module at its place.
+fn place_own(
+    out: &mut Builder,
+    number: u32,
+    unit: &Unit,
+    modules: &[Module],
+    places: &[usize],
+) -> Result<SlowPlaced, NoMemory>
+    requires top { out.old.name ≡ codes "top" }
+    requires fresh { CanFresh out.old }
+    requires name { IsNew (unit_part unit.now) (names_of out.old) }
+    requires has { HasModule modules.now places.now number unit.now }
+    ensures number { IfOk result (λ made. made.unit ≡ number) }
+    ensures places { IfOk result (λ made.
+        PlacesOwn modules.now places.now number unit.now made out.old out.new) }
+{
+    let at = number as usize;
+    let place = places[at];
+    let whole = &modules[place];
+    let placed = place_unit(out, number, unit, whole)?;
+    Ok(placed)
+}
+
+/// Whether the unit takes several cycles.
+fn is_slow(unit: &Unit) -> bool
+    ensures { result ≡ nat_lt 1 unit.now.latency }
+{
+    unit.latency > 1
 }
 
 /// Places each unit that takes several cycles, in the order of their declaration: an instance of the module at its place, over wires that
@@ -86,9 +117,8 @@ pub fn place_slow_units(
 {
     let mut made = Items::new(out.allocator());
     for (number, unit) in design.units.as_slice().iter().enumerate() {
-        if unit.latency > 1 {
-            let whole = &modules[places[number]];
-            let placed = place_unit(out, number as u32, unit, whole)?;
+        if is_slow(unit) {
+            let placed = place_own(out, number as u32, unit, modules, places)?;
             made.push(placed)?;
         }
     }

@@ -1,0 +1,40 @@
+use Rattle.std.proofs.Common.{◌<◌, List, length, refl, take, subst, arith}
+use Rattle.std.proofs.lemmas.List.{take_all}
+use Rattle.ap_slow.specs.declared.place.SlowPlaced.{SlowPlaced}
+use Rattle.ap_slow.specs.Driven.{DrivesUnits}
+use Rattle.ap_ctl.proofs.Beside.{item_at}
+use Rattle.ap_slow.proofs.DrivenAll.{next_apart, next_late, there_later, units_more, units_none}
+use Rattle.ap_slow.proofs.drive.drive_slow_units.Goals as goal
+
+pub drive_unit-requires-clause-there : goal.drive_unit-requires-clause-there
+drive_unit-requires-clause-there c = there_later c.args.design.now c.args.out.now c.loop-unit.out c.args.nets.now c.loop-unit.invariant.drives.extends c.requires.there
+
+pub drive_unit-requires-clause-late : goal.drive_unit-requires-clause-late
+drive_unit-requires-clause-late c =
+    let i = c.loop-unit.unit-index in
+    let placed : List SlowPlaced = c.args.placed.now in
+    let inside : i < length placed = omega arith in
+    let at = item_at placed placed i c.unit-item.result refl inside c.unit-item.is in
+    next_late c.args.design.now c.args.nets.now placed i c.unit-item.result c.args.out.now c.loop-unit.out at c.requires.can.late c.requires.can.apart c.loop-unit.invariant
+
+pub drive_unit-requires-clause-apart : goal.drive_unit-requires-clause-apart
+drive_unit-requires-clause-apart c =
+    let i = c.loop-unit.unit-index in
+    let placed : List SlowPlaced = c.args.placed.now in
+    let inside : i < length placed = omega arith in
+    let at = item_at placed placed i c.unit-item.result refl inside c.unit-item.is in
+    next_apart placed i c.unit-item.result at c.requires.can.apart
+
+pub loop-unit-init : goal.loop-unit-init
+loop-unit-init c = units_none c.args.design.now c.args.nets.now c.args.out.now c.requires.fresh
+
+pub loop-unit-preserved : goal.loop-unit-preserved
+loop-unit-preserved c =
+    let i = c.loop-unit.unit-index in
+    let placed : List SlowPlaced = c.args.placed.now in
+    let inside : i < length placed = omega arith in
+    let at = item_at placed placed i c.unit-item.result refl inside c.unit-item.is in
+    units_more c.args.design.now c.args.nets.now placed i c.unit-item.result c.args.out.now c.loop-unit.out c.drive_unit.new.out at c.loop-unit.invariant c.in_ok-drive_unit.ensures.served c.in_ok-drive_unit.ensures.drives
+
+pub returns : goal.returns
+returns c = subst (λ l. DrivesUnits c.args.design.now c.args.nets.now l c.args.out.now c.loop-unit.out) (take_all c.loop-unit.unit-index c.args.placed.now (omega arith)) c.loop-unit.invariant
