@@ -13,13 +13,20 @@ use Rattle.ap_net.proofs.Laws.{ReadyAfter-Extends}
 use Rattle.ap_net.proofs.Lists.{All-from, All-join}
 use Rattle.ap_ctl.specs.declared.nets.ControlNets.{ControlNets}
 use Rattle.ap_ctl.specs.Building.{IsBit}
-use Rattle.ap_ctl.proofs.Beside.{take_item}
+use Rattle.ap_ctl.proofs.Beside.{no_wire, take_item}
 use Rattle.ap_ctl.proofs.Built.{IsBit-Extends}
 use Rattle.ap_slow.specs.declared.place.SlowPlaced.{SlowPlaced}
 use Rattle.ap_slow.specs.Driven.{AreConditions, AreThere, DrivesLate, DrivesUnits, IsAtRest, IsDriven, IsServed, IsServedIn, asking, driven_in, driven_of, unit_stage}
 use Rattle.ap_slow.specs.Placed.{late_nets}
 use Rattle.ap_slow.proofs.DrivenOne.{drives_more, drives_none, rest_later, tells_later}
 use Rattle.ap_slow.proofs.Stage.{stage_uses}
+
+abbrev pub no_placed : SlowPlaced
+no_placed = record {
+  unit = 0;
+  inputs = record { sel = no_wire; a = no_wire; b = no_wire; go = no_wire; adv = no_wire };
+  outputs = record { busy = no_wire; y = no_wire };
+}
 
 -- By the stage of the unit.
 
@@ -126,17 +133,14 @@ among_late (y ∷ before) rest x n h = inr (inr (inr (inr (inr (among_late befor
 
 others : (design : Design) (before rest : List SlowPlaced) (x : SlowPlaced) (n : ℕ) → NoneTwice (numbers (flat_map late_nets (before ++ x ∷ rest))) → Among (numbers (late_nets x)) n → Each (λ m. m ≢ n) (numbers (flat_map (driven_of design) before))
 others design [] rest x n h k = tt
-others design (y ∷ before) rest x n h k = go (unit_stage design y.unit)
+others design (y ∷ before) rest x n h k = go (others design before rest x n h.1.1.1.1.1 k) (unit_stage design y.unit)
   where
-    more : Each (λ m. m ≢ n) (numbers (flat_map (driven_of design) before))
-    more = others design before rest x n h.1.1.1.1.1 k
-
     here : (m : ℕ) → Each (λ o. o ≢ m) (numbers (flat_map late_nets (before ++ x ∷ rest))) → m ≢ n
     here m each e = at_among (λ o. o ≢ m) (numbers (flat_map late_nets (before ++ x ∷ rest))) n each (among_late before rest x n k) (sym e)
 
-    go : (s : ℕ) → Each (λ m. m ≢ n) (numbers (driven_in s y ++ flat_map (driven_of design) before))
-    go zero = (here y.inputs.sel.number h.0.1.1.1.1, (here y.inputs.a.number h.1.0.1.1.1, (here y.inputs.b.number h.1.1.0.1.1, (here y.inputs.go.number h.1.1.1.0.1, (here y.inputs.adv.number h.1.1.1.1.0, more)))))
-    go (suc s) = (here y.inputs.go.number h.1.1.1.0.1, (here y.inputs.adv.number h.1.1.1.1.0, more))
+    go : Each (λ m. m ≢ n) (numbers (flat_map (driven_of design) before)) → (s : ℕ) → Each (λ m. m ≢ n) (numbers (driven_in s y ++ flat_map (driven_of design) before))
+    go more zero = (here y.inputs.sel.number h.0.1.1.1.1, (here y.inputs.a.number h.1.0.1.1.1, (here y.inputs.b.number h.1.1.0.1.1, (here y.inputs.go.number h.1.1.1.0.1, (here y.inputs.adv.number h.1.1.1.1.0, more)))))
+    go more (suc s) = (here y.inputs.go.number h.1.1.1.0.1, (here y.inputs.adv.number h.1.1.1.1.0, more))
 
 split : (xs : List SlowPlaced) (i : ℕ) (x : SlowPlaced) → slice_get xs i ≡ Some x → (rest : List SlowPlaced) × (xs ≡ take i xs ++ x ∷ rest)
 split [] i x at = cc
