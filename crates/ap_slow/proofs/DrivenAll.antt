@@ -1,5 +1,5 @@
 -- Units that are driven, one after the other.
-use Rattle.std.proofs.Common.{◌≡◌, ◌≢◌, ℕ, zero, suc, ◌+◌, ◌-◌, ◌<◌, ◌≤◌, List, [], ◌∷◌, ◌++◌, flat_map, length, take, refl, sym, ap, subst, ◌∙◌, arith, inl, inr}
+use Rattle.std.proofs.Common.{◌≡◌, ◌≢◌, ℕ, zero, suc, ◌+◌, ◌-◌, ◌≤◌, List, [], ◌∷◌, ◌++◌, flat_map, take, refl, sym, ap, subst, ◌∙◌, arith, inl, inr}
 use Rattle.std.specs.Prelude.{slice_get, Some}
 use Rattle.std.specs.List.{AllByRecursion as Each}
 use Rattle.ap_desc.specs.declared.design.Design.{Design}
@@ -7,7 +7,7 @@ use Rattle.ap_net.specs.declared.cell.Wire.{Wire}
 use Rattle.ap_net.specs.Draft.{CanFresh, Draft, Extends}
 use Rattle.ap_net.specs.Late.{IsLate}
 use Rattle.ap_net.specs.Pending.{Among}
-use Rattle.ap_net.specs.Ready.{ReadyAfter, numbers}
+use Rattle.ap_net.specs.Ready.{numbers}
 use Rattle.ap_net.specs.Wiring.{NoneTwice}
 use Rattle.ap_net.proofs.Laws.{ReadyAfter-Extends}
 use Rattle.ap_net.proofs.Lists.{All-from, All-join}
@@ -168,8 +168,7 @@ next_late design nets placed i x a b at late apart h =
     let l = each_mid (IsLate a) (take i placed) s.0 x (subst (λ l. Each (IsLate a) (flat_map late_nets l)) s.1 late) in
     let o = others design (take i placed) s.0 x in
     let t = subst (λ l. NoneTwice (numbers (flat_map late_nets l))) s.1 apart in
-    let in_b : (w : Wire) → Among (numbers (late_nets x)) w.number → IsLate a w → IsLate b w = λ w k q. h.drives.late w (o w.number t k) q in
-    (
+    let in_b : (w : Wire) → Among (numbers (late_nets x)) w.number → IsLate a w → IsLate b w = λ w k q. h.drives.late w (o w.number t k) q in (
       in_b x.inputs.sel (inl refl) l.0,
       (in_b x.inputs.a (inr (inl refl)) l.1.0, (in_b x.inputs.b (inr (inr (inl refl))) l.1.1.0, (in_b x.inputs.go (inr (inr (inr (inl refl)))) l.1.1.1.0, (in_b x.inputs.adv (inr (inr (inr (inr (inl refl))))) l.1.1.1.1.0, tt)))),
     )

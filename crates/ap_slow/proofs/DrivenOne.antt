@@ -1,9 +1,8 @@
 -- Late wires of a unit that are driven.
-use Rattle.std.proofs.Common.{◌≡◌, ◌≢◌, ℕ, zero, suc, ◌+◌, ◌-◌, ◌<◌, ◌≤◌, ◌^◌, ◌&&◌, Bool, true, false, List, [], ◌∷◌, ◌++◌, flat_map, length, refl, sym, ap, subst, ◌∙◌, arith, inl, inr}
+use Rattle.std.proofs.Common.{◌≡◌, ◌≢◌, ℕ, zero, suc, ◌-◌, ◌<◌, ◌≤◌, ◌^◌, Bool, true, false, List, [], ◌∷◌, ◌++◌, flat_map, length, refl, sym, ap, subst, ◌∙◌, arith, inl, inr}
 use Rattle.std.specs.Prelude.{◌⊎◌, not, slice_get, Some}
 use Rattle.std.proofs.lemmas.Bool.{cases_lt}
-use Rattle.std.specs.List.{AllByRecursion as Each, list_any}
-use Rattle.ap_desc.specs.declared.design.Design.{Design}
+use Rattle.std.specs.List.{AllByRecursion as Each}
 use Rattle.ap_net.specs.declared.cell.Cell.{Cell}
 use Rattle.ap_net.specs.declared.cell.Cell.TheVariants as cell
 use Rattle.ap_net.specs.declared.cell.Wire.{Wire}
@@ -12,7 +11,7 @@ use Rattle.ap_net.specs.Draft.{CanFresh, Draft, Extends, KeepsNew, with_assign}
 use Rattle.ap_net.specs.Late.{Drives, IsLate}
 use Rattle.ap_net.specs.Modules.{ports_among}
 use Rattle.ap_net.specs.Readings.{Always, Reading}
-use Rattle.ap_net.specs.Ready.{AreReady, Dependence, Ready, ReadyAfter, numbers}
+use Rattle.ap_net.specs.Ready.{Dependence, Ready, ReadyAfter, numbers}
 use Rattle.ap_net.specs.Runs.{bit}
 use Rattle.ap_net.proofs.Laws.{Carries-Extends, Extends-refl, Extends-trans, ReadyAfter-Extends, settled_before}
 use Rattle.ap_net.proofs.Lists.{All-back, All-front}
@@ -20,8 +19,7 @@ use Rattle.ap_ctl.specs.declared.nets.ControlNets.{ControlNets}
 use Rattle.ap_ctl.specs.Building.{Builds, Gives, IsBit, Tells, is_on}
 use Rattle.ap_ctl.proofs.Bits.{bit_of}
 use Rattle.ap_ctl.proofs.Built.{ready_from}
-use Rattle.ap_slow.specs.declared.place.SlowPlaced.{SlowPlaced}
-use Rattle.ap_slow.specs.Driven.{DrivesLate, IsAtRest, IsDriven, asking}
+use Rattle.ap_slow.specs.Driven.{DrivesLate, IsAtRest, asking}
 
 pub drives_cell : (to : Wire) (x : Cell) (reads from : List ℕ) (a b : Draft) → CanFresh a → b ≡ with_assign a to x → Drives reads to a b → DrivesLate (to.number ∷ []) from a b
 drives_cell to x reads from a b fresh is drives = record {

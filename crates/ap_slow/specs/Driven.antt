@@ -2,7 +2,6 @@
 use Rattle.std.specs.Prelude.{◌≡◌, ◌≢◌, ℕ, zero, suc, ◌-◌, ◌<◌, ◌≤◌, ◌&&◌, not, List, [], ◌∷◌, ◌++◌, find, flat_map, length, slice_get, Some, unwrap_or}
 use Rattle.std.specs.List.{AllByRecursion as Each, list_any, range_with_len}
 use Rattle.ap_desc.specs.declared.design.Design.{Design}
-use Rattle.ap_desc.specs.declared.design.Instr.{Instr}
 use Rattle.ap_net.specs.declared.cell.Wire.{Wire}
 use Rattle.ap_net.specs.Draft.{CanFresh, Draft, Extends, KeepsNew}
 use Rattle.ap_net.specs.Late.{IsLate}

@@ -1,6 +1,6 @@
 -- Units of several cycles in a processor's top: instances over wires that are driven later.
 use Rattle.std.specs.Option.{option_map_or}
-use Rattle.std.specs.Prelude.{◌≡◌, ◌≢◌, ◌⊎◌, ℕ, ◌+◌, ◌<◌, ◌≤◌, List, [], ◌∷◌, ◌++◌, flat_map, length, map, slice_get, Some}
+use Rattle.std.specs.Prelude.{◌≡◌, ◌≢◌, ◌⊎◌, ℕ, ◌+◌, ◌<◌, ◌≤◌, List, [], ◌∷◌, flat_map, length, map, slice_get, Some}
 use Rattle.std.specs.List.{AllByRecursion as Each}
 use Rattle.ap_bits.specs.declared.card.Latency.TheVariants.{WidthPlusOne}
 use Rattle.ap_desc.specs.declared.design.Design.{Design}
@@ -16,7 +16,6 @@ use Rattle.ap_net.specs.Pending.{Among, CameAmong}
 use Rattle.ap_net.specs.Ready.{Dependence, ReadyAfter, numbers}
 use Rattle.ap_net.specs.Wiring.{NoneTwice}
 use Rattle.ap_signals.specs.NetRuns.{unit_part}
-use Rattle.ap_unit.specs.declared.slow.SlowInputs.{SlowInputs}
 use Rattle.ap_unit.specs.Slow.{AreSlowInputs, IsReadyByUnit, input_nets, slow_needs}
 use Rattle.ap_unit.specs.Units.{ports_by}
 use Rattle.ap_slow.specs.declared.place.SlowPlaced.{SlowPlaced}

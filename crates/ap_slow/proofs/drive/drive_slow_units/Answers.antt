@@ -1,4 +1,4 @@
-use Rattle.std.proofs.Common.{◌<◌, List, get_or, length, take, subst, arith}
+use Rattle.std.proofs.Common.{◌<◌, List, get_or, length, subst, arith}
 use Rattle.std.proofs.lemmas.List.{take_all}
 use Rattle.ap_slow.specs.declared.place.SlowPlaced.{SlowPlaced}
 use Rattle.ap_slow.specs.Driven.{DrivesUnits}

@@ -1,4 +1,4 @@
-use Rattle.std.proofs.Common.{◌≡◌, Bool, ◌-◌, ◌<◌, ◌∷◌, [], List, ℕ, Some, get_or, length, refl, sym, ap, subst, ◌∙◌, arith}
+use Rattle.std.proofs.Common.{◌≡◌, Bool, ◌-◌, ◌∷◌, [], List, ℕ, Some, get_or, length, sym, ap, ◌∙◌, arith}
 use Rattle.std.specs.Prelude.{slice_get, ◌&&◌}
 use Rattle.std.specs.List.{list_any}
 use Rattle.std.proofs.lemmas.Option.{slice_get-get_or}
@@ -6,7 +6,7 @@ use Rattle.ap_net.specs.declared.cell.Cell.TheVariants as cell
 use Rattle.ap_net.specs.declared.cell.Wire.{Wire}
 use Rattle.ap_net.specs.Readings.{Reading}
 use Rattle.ap_net.specs.Ready.{numbers}
-use Rattle.ap_net.proofs.Laws.{Extends-trans, ReadyAfter-Extends}
+use Rattle.ap_net.proofs.Laws.{Extends-trans}
 use Rattle.ap_ctl.specs.Building.{IsBit, is_on}
 use Rattle.ap_ctl.proofs.Beside.{each_get, item_at, no_wire}
 use Rattle.ap_ctl.proofs.Built.{IsBit-Extends}

@@ -1,6 +1,5 @@
-use Rattle.std.proofs.Common.{◌≡◌, ◌<◌, ◌+◌, ◌++◌, [], ◌∷◌, List, length, if◌then◌else◌, refl, sym, ap, subst, ◌∙◌, arith, Some, true}
-use Rattle.std.specs.Prelude.{nat_lt, slice_get, Option}
-use Rattle.std.specs.Option.{option_map_or}
+use Rattle.std.proofs.Common.{◌≡◌, [], List, length, sym, ap, subst, ◌∙◌, arith, Some}
+use Rattle.std.specs.Prelude.{slice_get}
 use Rattle.std.proofs.lemmas.Bool.{ltb-true}
 use Rattle.ap_desc.specs.declared.design.Unit.{Unit as Resource}
 use Rattle.ap_ctl.proofs.Beside.{item_at}
@@ -35,10 +34,10 @@ loop-number-preserved c =
     let u : Resource = c.unit-item.result in
     let at : slice_get c.args.design.now.units n ≡ Some u = item_at items c.args.design.now.units n u c.as_slice-unit-items.ensures (omega arith) c.unit-item.is in
     elim c.if-is_slow.branch [
-  | then-is_slow+in_ok-placed+in_ok-push w ↦ rw (w.made-is, w.out-is, w.in_ok-push.ensures.ok) (more_placed c.args.design.now c.args.modules.now c.args.places.now c.loop-number.made w.in_ok-placed.placed n u c.args.out.now c.loop-number.out w.place_own.new.out c.loop-number.invariant
-      w.in_ok-placed.ensures.number at (sym c.is_slow.ensures ∙ w.if-is_slow.true) w.in_ok-placed.ensures.places)
-  | else-is_slow w ↦ rw (w.made-is, w.out-is) (more_kept c.args.design.now c.args.modules.now c.args.places.now c.loop-number.made n u c.args.out.now c.loop-number.out c.loop-number.invariant at (sym c.is_slow.ensures ∙ w.if-is_slow.false))
-]
+      | then-is_slow+in_ok-placed+in_ok-push w ↦ rw (w.made-is, w.out-is, w.in_ok-push.ensures.ok) (more_placed c.args.design.now c.args.modules.now c.args.places.now c.loop-number.made w.in_ok-placed.placed n u c.args.out.now c.loop-number.out w.place_own.new.out c.loop-number.invariant
+          w.in_ok-placed.ensures.number at (sym c.is_slow.ensures ∙ w.if-is_slow.true) w.in_ok-placed.ensures.places)
+      | else-is_slow w ↦ rw (w.made-is, w.out-is) (more_kept c.args.design.now c.args.modules.now c.args.places.now c.loop-number.made n u c.args.out.now c.loop-number.out c.loop-number.invariant at (sym c.is_slow.ensures ∙ w.if-is_slow.false))
+    ]
 
 pub returns : goal.returns
 returns c =

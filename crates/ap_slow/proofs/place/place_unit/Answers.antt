@@ -1,4 +1,4 @@
-use Rattle.std.proofs.Common.{◌≡◌, ◌∷◌, ◌<◌, [], List, get_or, refl, sym, ap, subst, ◌∙◌, length, arith, Some}
+use Rattle.std.proofs.Common.{◌≡◌, ◌∷◌, List, get_or, refl, sym, ap, subst, ◌∙◌, length, arith, Some}
 use Rattle.std.specs.Prelude.{slice_get}
 use Rattle.std.proofs.lemmas.Option.{slice_get-get_or}
 use Rattle.ap_net.specs.declared.net.Port.{Port}
@@ -6,7 +6,7 @@ use Rattle.ap_net.proofs.Laws.{IsNotNumbered-other}
 use Rattle.ap_signals.specs.NetRuns.{unit_part}
 use Rattle.ap_slow.specs.declared.place.SlowPlaced.{SlowPlaced}
 use Rattle.ap_slow.specs.Placed.{IsFit}
-use Rattle.ap_slow.proofs.PlacedOne.{first_width, fit_ports, late_slow, late_widths, part_is_name, places_unit}
+use Rattle.ap_slow.proofs.PlacedOne.{first_width, fit_ports, part_is_name, places_unit}
 use Rattle.ap_slow.proofs.place.place_unit.Goals as goal
 
 pub late_inputs-requires-clause-select : goal.late_inputs-requires-clause-select
