@@ -49,7 +49,7 @@ use Rattle.ap_slow.specs.declared.place.SlowPlaced.{SlowPlaced}
 use Rattle.ap_slow.specs.Asking.{AskingIsShown, IsStageOf}
 use Rattle.ap_slow.specs.Driven.{IsDriven, IsServedIn, unit_stage}
 use Rattle.ap_slow.proofs.Stage.{stage_uses, used_somewhere}
-use Rattle.ap_asked.specs.Served.{GivesSlowUnit, HasWires, IsServedUnit, IsTopWithControl, ServedUnitsAreJoined, ServedUnitsGiveBorder, ServedUnitsShowBusy}
+use Rattle.ap_asked.specs.Served.{GivesSlowUnit, HasWires, IsServedUnit, IsTopWithControl, ServedUnitsAreJoined, ServedUnitsGiveBorder, ServedUnitsGiveBusy, ServedUnitsShowBusy}
 
 head_differs : (a b : ℕ) (xs ys : List ℕ) → (a == b) ≡ false → a ∷ xs ≡ b ∷ ys → ⊥
 head_differs a b xs ys d e = let same : a ≡ b = cc in eqb-false a b d same
@@ -106,6 +106,10 @@ shows_busy knows cards design d modules nets fits parts top x h = record {
     joined = ap (λ (l : List Wire). slice_get l 5) (h.stands).joined;
   };
 }
+
+pub give_busy : ServedUnitsGiveBusy
+give_busy knows cards design d modules nets fits parts top [] h = tt
+give_busy knows cards design d modules nets fits parts top (x ∷ made) h = (shows_busy knows cards design d modules nets fits parts top x h.0, give_busy knows cards design d modules nets fits parts top made h.1)
 
 pub are_joined : ServedUnitsAreJoined
 are_joined knows cards design d modules nets parts x h s w =

@@ -1,5 +1,5 @@
 -- The units of several cycles of a finished draft: what the border asks of them, by how they were placed and driven.
-use Rattle.std.specs.Prelude.{◌≡◌, ℕ, ◌<◌, true, List, codes, slice_get, Some}
+use Rattle.std.specs.Prelude.{◌≡◌, ℕ, ◌<◌, true, List, codes, map, slice_get, Some}
 use Rattle.std.specs.List.{AllByRecursion as Each}
 use Rattle.ap_bits.specs.declared.card.Card.{Card}
 use Rattle.ap_desc.specs.Clean.{FitsCards}
@@ -14,6 +14,7 @@ use Rattle.ap_signals.specs.NetSignals.{is_slow_unit_of}
 use Rattle.ap_ctl.specs.declared.nets.ControlGiven.{ControlGiven}
 use Rattle.ap_ctl.specs.declared.nets.ControlNets.{ControlNets}
 use Rattle.ap_ctl.specs.Given.{IsGiven, slow_units}
+use Rattle.ap_ctl.specs.Lists.{EachPair}
 use Rattle.ap_ctl.specs.Nets.{IsControl}
 use Rattle.ap_stage.specs.declared.chain.Node.{Node}
 use Rattle.ap_stage.specs.declared.chain.Node.TheVariants as node
@@ -74,6 +75,11 @@ ServedUnitsGiveBorder = (knows : Knows) (cards : List Card) (design : Design) (d
 abbrev pub ServedUnitsShowBusy : Type 0
 ServedUnitsShowBusy = (knows : Knows) (cards : List Card) (design : Design) (d : Draft) (modules : List ModuleText) (nets : ControlNets) → FitsCards design cards → HasParts knows cards design modules → d.name ≡ codes "top"
     → (x : SlowPlaced) → IsServedUnit knows design d nets x → IsBusyOf design d modules x.unit x.outputs.busy
+
+-- and so are those of all, as control is given them
+abbrev pub ServedUnitsGiveBusy : Type 0
+ServedUnitsGiveBusy = (knows : Knows) (cards : List Card) (design : Design) (d : Draft) (modules : List ModuleText) (nets : ControlNets) → FitsCards design cards → HasParts knows cards design modules → d.name ≡ codes "top"
+    → (made : List SlowPlaced) → Each (IsServedUnit knows design d nets) made → EachPair (IsBusyOf design d modules) (map (λ (x : SlowPlaced). x.unit) made) (map (λ (x : SlowPlaced). x.outputs.busy) made)
 
 -- the stage's port has the wires of the unit
 pub record HasWires (s : SlowUnit) (x : SlowPlaced) : Type 0 where

@@ -1,5 +1,5 @@
 //! Laws of the definitions. They do nothing: their contracts are what they say.
-ghost use Rattle.ap_asked.specs.Served.{KnownHaveModules, PlacedAreServed, ServedUnitsAreJoined, ServedUnitsGiveBorder, ServedUnitsShowBusy, StagesAskUnits};
+ghost use Rattle.ap_asked.specs.Served.{KnownHaveModules, PlacedAreServed, ServedUnitsAreJoined, ServedUnitsGiveBorder, ServedUnitsGiveBusy, ServedUnitsShowBusy, StagesAskUnits};
 
 use ap_data::laws::units_are_asked;
 use ap_slow::laws::asking_is_shown;
@@ -15,6 +15,7 @@ pub fn units_are_served()
 pub fn served_units_give_the_border()
     ensures units { ServedUnitsGiveBorder }
     ensures busy { ServedUnitsShowBusy }
+    ensures all { ServedUnitsGiveBusy }
     ensures joined { ServedUnitsAreJoined }
 {
     asking_is_shown();
