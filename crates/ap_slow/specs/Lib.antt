@@ -1,1 +1,3 @@
 pub mod Asking
+pub mod Driven
+pub mod Placed

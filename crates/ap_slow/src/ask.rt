@@ -25,7 +25,7 @@ fn is_use_of(unit: u32, act: Act) -> bool
 }
 
 /// Whether a line of the instruction computes on the unit in the stage.
-fn uses_unit(instr: &Instr, stage: u32, unit: u32) -> bool
+pub(crate) fn uses_unit(instr: &Instr, stage: u32, unit: u32) -> bool
     ensures { result ≡ uses_unit stage unit instr.now }
 {
     let mut micros = instr.micros.as_slice().iter();
