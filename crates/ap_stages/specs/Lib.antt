@@ -1,0 +1,5 @@
+pub mod Links
+pub mod Supplies
+pub mod Begun
+pub mod Stood
+pub mod Staged
