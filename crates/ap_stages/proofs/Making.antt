@@ -63,11 +63,11 @@ chosen design choices stage x are is_node =
     let (instr, instr_in, in_it) = flat_from (λ (i : Instr). i.micros) design.instrs m m_in in
     let (n, n_in) = in_enumerated 0 design.instrs instr instr_in in
     let (place, place_in) = in_enumerated 0 instr.micros m in_it in
-    let use = line_uses x n place m is.1 in
-    let own : In use.used (uses_in n instr.micros) = in_filtered (λ (line : ℕ × Micro). use_of n line.0 line.1) (enumerate_from 0 instr.micros) (place, m) use.used place_in use.gives in
-    let all : In use.used (uses_of design) = in_flat_map (λ (i : ℕ × Instr). uses_in i.0 i.1.micros) (enumerate_from 0 design.instrs) (n, instr) use.used n_in own in
-    let there : Contains are.paths.uses use.used = subst (λ us. Contains us use.used) (sym are.of.uses) (in_contains (uses_of design) use.used all) in
-    subst (λ p. Any (HasOperand p 0) choices) use.port (are.are.all use.used 0 use.first there use.hands)
+    let line = line_uses x n place m is.1 in
+    let own : In line.used (uses_in n instr.micros) = in_filtered (λ (at : ℕ × Micro). use_of n at.0 at.1) (enumerate_from 0 instr.micros) (place, m) line.used place_in line.gives in
+    let all : In line.used (uses_of design) = in_flat_map (λ (i : ℕ × Instr). uses_in i.0 i.1.micros) (enumerate_from 0 design.instrs) (n, instr) line.used n_in own in
+    let there : Contains are.paths.uses line.used = subst (λ us. Contains us line.used) (sym are.of.uses) (in_contains (uses_of design) line.used all) in
+    subst (λ p. Any (HasOperand p 0) choices) line.port (are.are.all line.used 0 line.first there line.hands)
 
 suits : (design : Design) (cards : List Card) (d : Draft) (modules : List ModuleText) (x : DesignNode) (s : Supply) → Stands design cards d modules x s → Suits design x s
 suits design cards d modules (design_node.Unit v) (by.Quick place bits) h = slice_get_within design.units v h.has.unit h.has.at

@@ -41,7 +41,7 @@ is_first_of x c = (c.operand == 0) && is_its_port x c.port
 
 -- a unit of the design that takes one cycle, as a stage places it
 abbrev pub quick_of : Resource → ℕ → Select → ℕ → ℕ → QuickUnit
-quick_of u number choice whole bits = record { port = number; select = choice; name = unit_part u; module = whole; select_width = bits; width = u.width }
+quick_of u number choice whole bits = record { port = number; select = choice; name = unit_part u; «module» = whole; select_width = bits; width = u.width }
 
 -- The port of the stage is that of the node: it has its number, this selection, and this is with what it is served.
 abbrev pub IsNodeBy : Design → Select → DesignNode → Supply → Node → Type 0

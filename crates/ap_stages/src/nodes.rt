@@ -25,7 +25,7 @@ use std::alloc::Global;
 pub enum Supply {
     /// A unit that takes one cycle and is to be placed: the place of its module among those of the netlist, and how many bits the number of
     /// an operation has.
-    Quick { module: u32, select_width: u32 },
+    Quick { place: u32, select_width: u32 },
     /// A unit of several cycles that stands already: the wires that reach it, which are driven later, and its result.
     Slow {
         sel: Wire,
@@ -141,12 +141,12 @@ fn quick_unit(
     design: &Design,
     unit: u32,
     select: Select,
-    module: u32,
+    place: u32,
     select_width: u32,
 ) -> Result<QuickUnit, NoMemory>
     requires { unit < length design.now.units }
     ensures { IfOk result (λ q. (u : Resource) × (slice_get design.now.units unit ≡ Some u)
-        × IsNetName (unit_part u) × (q ≡ quick_of u unit select module select_width)) }
+        × IsNetName (unit_part u) × (q ≡ quick_of u unit select place select_width)) }
 {
     let of = unit_at(design, unit);
     let name = instance_name(alloc, of)?;
@@ -154,7 +154,7 @@ fn quick_unit(
         port: unit,
         select,
         name,
-        module,
+        module: place,
         select_width,
         width: of.width,
     })
@@ -175,10 +175,10 @@ fn node_by(
     let port = number_of(node);
     match supply {
         Supply::Quick {
-            module,
+            place,
             select_width,
         } => {
-            let unit = quick_unit(alloc, design, port, select, module, select_width)?;
+            let unit = quick_unit(alloc, design, port, select, place, select_width)?;
             Ok(Node::Quick(unit))
         }
         Supply::Slow { sel, a, b, y } => Ok(Node::Slow(SlowUnit {

@@ -23,7 +23,7 @@ use ap_stage::source::Ground;
 
 /// A stage whose ports serve its instructions.
 #[derive(Drop)]
-pub struct Stage {
+pub struct ServedStage {
     pub ground: Ground,
     /// The instructions of the design, in their order, each with a net for each local that its lines make in the stage.
     pub courses: Vec<Course>,
@@ -32,7 +32,7 @@ pub struct Stage {
 
 /// Makes the data of a stage: `table` has its slots and the homes of its live locals, `choices` are those of the design's paths, `order` is
 /// a chain order of the stage's nodes, and `supplies` has with what each of these is served.
-pub fn stage(
+pub fn make_stage(
     out: &mut Builder,
     design: &Design,
     number: u32,
@@ -43,7 +43,7 @@ pub fn stage(
     modules: &[Module],
     shared: &SharedNets,
     own: &StageNets,
-) -> Result<Stage, NoMemory>
+) -> Result<ServedStage, NoMemory>
     requires top { out.old.name ≡ codes "top" }
     requires fresh { CanFresh out.old }
     requires homes { AreHomes design.now number table.now.widths table.now.homes }
@@ -62,7 +62,7 @@ pub fn stage(
     let ground = begun.ground;
     let mut courses = begun.courses;
     serve_stage(out, &ground, &mut courses, &nodes, modules)?;
-    Ok(Stage {
+    Ok(ServedStage {
         ground,
         courses,
         nodes,
