@@ -4,3 +4,4 @@ pub mod Beginning
 pub mod Standing
 pub mod Begun
 pub mod Following
+pub mod Selecting

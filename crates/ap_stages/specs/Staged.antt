@@ -33,7 +33,7 @@ pub record AreChoicesOf (design : Design) (choices : List Choice) : Type 0 where
 -- the ports of the stage that are made of its nodes serve its instructions, which are those of the beginning but for the nets of further
 -- locals: each has all of its locals
 pub record ServesAll (d : Draft) (modules : List ModuleText) (ground : Ground) (courses : List Course) (nodes : List Node) : Type 0 where
-  pub courses : Each (IsCourse d ground) courses
+  pub are : Each (IsCourse d ground) courses
   pub whole : Each IsWhole courses
   pub full : Each IsFull courses
   pub only : Each (UsesOnly nodes) courses
