@@ -5,3 +5,6 @@ pub mod Standing
 pub mod Begun
 pub mod Following
 pub mod Selecting
+pub mod Gathering
+pub mod Same
+pub mod Staged
