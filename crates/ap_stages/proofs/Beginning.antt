@@ -1,12 +1,11 @@
 -- The nets of a stage as its instructions stand on them.
-use Rattle.std.proofs.Common.{◌≡◌, ℕ, List, ◌∷◌, [], ◌++◌, map, sym, ap, subst, ◌∙◌}
+use Rattle.std.proofs.Common.{ℕ, List, ◌∷◌, [], ◌++◌, map, sym, ap, subst, ◌∙◌}
 use Rattle.std.specs.List.{AllByRecursion as Each}
 use Rattle.ap_desc.proofs.OnePort.{each_as}
 use Rattle.ap_desc.specs.declared.design.Design.{Design}
 use Rattle.ap_net.specs.declared.cell.Wire.{Wire}
 use Rattle.ap_net.specs.Cells.{IsNet}
 use Rattle.ap_net.specs.Draft.{Draft}
-use Rattle.ap_net.specs.Making.{Makes}
 use Rattle.ap_net.specs.Ready.{numbers}
 use Rattle.ap_net.proofs.Laws.{IsNet-Makes}
 use Rattle.ap_pipe.specs.declared.table.StageSlots.{StageSlots}

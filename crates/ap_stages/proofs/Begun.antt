@@ -1,9 +1,8 @@
 -- The ports of a stage, over the instructions at their beginning.
-use Rattle.std.proofs.Common.{◌≡◌, ◌≢◌, ℕ, zero, suc, ◌<◌, ◌≤◌, List, [], ◌∷◌, ◌++◌, length, Option, Some, refl, sym, ap, subst, ◌∙◌, arith}
+use Rattle.std.proofs.Common.{◌≡◌, ◌≢◌, ℕ, zero, suc, ◌<◌, List, [], ◌∷◌, length, Some, refl, sym, subst, ◌∙◌, arith}
 use Rattle.std.specs.Prelude.{slice_get}
 use Rattle.std.specs.List.{AllByRecursion as Each}
 use Rattle.std.proofs.lemmas.Option.{same_Some, slice_get_within}
-use Rattle.ap_bits.specs.declared.card.Card.{Card}
 use Rattle.ap_desc.proofs.Members.{each_contained}
 use Rattle.ap_desc.specs.Chains.{IsChainOrder, IsNodeOf}
 use Rattle.ap_desc.specs.declared.design.Design.{Design}
@@ -14,7 +13,6 @@ use Rattle.ap_merge.specs.Selects.{GoesOver}
 use Rattle.ap_merge.specs.declared.table.Choice.{Choice}
 use Rattle.ap_merge.specs.declared.table.Select.{Select}
 use Rattle.ap_net.specs.declared.cell.Wire.{Wire}
-use Rattle.ap_net.specs.declared.net.ModuleNet.{ModuleNet}
 use Rattle.ap_net.specs.Draft.{Draft}
 use Rattle.ap_net.specs.Late.{StayLate}
 use Rattle.ap_net.specs.Making.{Makes}
@@ -22,25 +20,21 @@ use Rattle.ap_net.specs.Modules.{ModuleText}
 use Rattle.ap_pipe.specs.declared.table.StageSlots.{StageSlots}
 use Rattle.ap_ports.proofs.Members.{contains_at, each_get, each_of}
 use Rattle.ap_ports.specs.Numbers.{number_of_node}
-use Rattle.ap_signals.specs.NetRuns.{unit_part}
 use Rattle.ap_stage.specs.declared.chain.Node.{Node}
 use Rattle.ap_stage.specs.declared.node.Course.{Course}
 use Rattle.ap_stage.specs.declared.source.Ground.{Ground}
-use Rattle.ap_stage.specs.Chained.{AreApart, AreNodes, IsApart, IsNode, IsWhole, UsesOnly}
+use Rattle.ap_stage.specs.Chained.{AreApart, AreNodes, IsWhole, UsesOnly}
 use Rattle.ap_stage.specs.Courses.{IsCourse, IsUnserved, users_of}
 use Rattle.ap_stage.specs.Served.{IsServable, names_placed, port_of, wires_of}
 use Rattle.ap_course.specs.Instrs.{AreCoursesOf, AreNodesOf, AreOrdered, IsGroundOf}
-use Rattle.ap_course.specs.Starts.{AreConds, AreStarted, IsStarted}
+use Rattle.ap_course.specs.Starts.{AreStarted, IsStarted}
 use Rattle.ap_course.proofs.Choosing.{over_users}
 use Rattle.ap_course.proofs.Ordered.{are_ordered}
-use Rattle.ap_stages.specs.Begun.{IsBegun}
 use Rattle.ap_stages.specs.Staged.{AreChoicesOf}
 use Rattle.ap_stages.specs.Stood.{AreApartSupplies, AreStanding, HasStanding, Stands, wires_with}
-use Rattle.ap_stages.specs.Supplies.{AreNodesFor, IsNodeBy, IsNodeFor, IsSelectionOf, supply_of}
-use Rattle.ap_stages.specs.declared.begin.SharedNets.{SharedNets}
+use Rattle.ap_stages.specs.Supplies.{AreNodesFor, IsNodeFor, IsSelectionOf}
 use Rattle.ap_stages.specs.declared.begin.StageNets.{StageNets}
 use Rattle.ap_stages.specs.declared.nodes.Supplied.{Supplied}
-use Rattle.ap_stages.specs.declared.nodes.Supply.{Supply}
 use Rattle.ap_stages.proofs.Names.{units_named_once}
 use Rattle.ap_stages.proofs.Standing.{IsPartName, can_be_node, names_are, port_is, stands_on, wires_are}
 

@@ -1,5 +1,5 @@
 -- What a stage follows from, and that all else stays.
-use Rattle.std.proofs.Common.{◌≡◌, ℕ, zero, suc, ◌<◌, ◌≤◌, List, [], ◌∷◌, ◌++◌, length, Some, inl, inr, refl, sym, ap, subst, ◌∙◌}
+use Rattle.std.proofs.Common.{◌≡◌, ℕ, zero, suc, List, [], ◌∷◌, ◌++◌, length, Some, refl, sym, subst}
 use Rattle.std.specs.Prelude.{slice_get}
 use Rattle.std.specs.List.{AllByRecursion as Each}
 use Rattle.ap_desc.specs.declared.design.Design.{Design}
@@ -9,7 +9,7 @@ use Rattle.ap_net.specs.Late.{StayLate}
 use Rattle.ap_net.specs.Making.{Makes}
 use Rattle.ap_net.specs.Pending.{IsFrom}
 use Rattle.ap_net.specs.Ready.{Dependence, ReadyAfter, numbers}
-use Rattle.ap_net.proofs.Laws.{Extends-trans, Makes-trans, ReadyAfter-Extends}
+use Rattle.ap_net.proofs.Laws.{Makes-trans, ReadyAfter-Extends}
 use Rattle.ap_pipe.specs.declared.table.StageSlots.{StageSlots}
 use Rattle.ap_stage.specs.declared.chain.Node.{Node}
 use Rattle.ap_stage.specs.declared.chain.Node.TheVariants as node
@@ -17,7 +17,7 @@ use Rattle.ap_stage.specs.declared.node.Course.{Course}
 use Rattle.ap_stage.specs.declared.source.Ground.{Ground}
 use Rattle.ap_stage.specs.Courses.{course_numbers, courses_numbers}
 use Rattle.ap_stage.specs.Reads.{AreReadyAfter, CameReady}
-use Rattle.ap_stage.specs.Served.{AreServedReady, IsReadyNode, ServesNodes, StayReady, stage_wires}
+use Rattle.ap_stage.specs.Served.{IsReadyNode, ServesNodes, StayReady, stage_wires}
 use Rattle.ap_stage.specs.Sources.{source_numbers}
 use Rattle.ap_stage.proofs.Driven.{came_later, ready_from, ready_on, ready_then, serves_later, serves_made}
 use Rattle.ap_stage.proofs.Followed.{each_then}
@@ -27,7 +27,7 @@ use Rattle.ap_stages.specs.Begun.{IsBegun, base_numbers}
 use Rattle.ap_stages.specs.Staged.{FollowsFrom, stage_numbers}
 use Rattle.ap_stages.specs.declared.begin.SharedNets.{SharedNets}
 use Rattle.ap_stages.specs.declared.begin.StageNets.{StageNets}
-use Rattle.ap_stages.proofs.Begun.{StartsAt, starts_at}
+use Rattle.ap_stages.proofs.Begun.{starts_at}
 
 -- the net at a place is one of those
 number_at : (P : ℕ → Type 0) (wires : List Wire) (k : ℕ) (w : Wire) → Each P (numbers wires) → slice_get wires k ≡ Some w → P w.number

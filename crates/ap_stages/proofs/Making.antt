@@ -1,6 +1,6 @@
 -- A port can be made of each node of a stage.
-use Rattle.std.proofs.Common.{◌≡◌, ℕ, ◌+◌, List, [], ◌∷◌, Option, Some, inl, inr, refl, sym, ap, subst, ◌∙◌, flat_map}
-use Rattle.std.specs.Prelude.{Any, Contains, IsSomeAnd, slice_get}
+use Rattle.std.proofs.Common.{◌≡◌, ℕ, ◌+◌, List, [], ◌∷◌, Some, inl, inr, refl, sym, ap, subst}
+use Rattle.std.specs.Prelude.{Any, Contains, IsSomeAnd}
 use Rattle.std.specs.List.{AllByRecursion as Each, enumerate_from}
 use Rattle.std.proofs.lemmas.Option.{same_Some, slice_get_within}
 use Rattle.ap_bits.specs.declared.card.Card.{Card}
@@ -27,10 +27,10 @@ use Rattle.ap_path.specs.declared.table.PathUse.{PathUse}
 use Rattle.ap_ports.proofs.Added.{low_from}
 use Rattle.ap_ports.proofs.Conditions.{numbered_at}
 use Rattle.ap_ports.proofs.Members.{contains_at, each_get, each_of, place_of}
-use Rattle.ap_ports.specs.Numbers.{IsNumberedNode, number_of_node}
+use Rattle.ap_ports.specs.Numbers.{IsNumberedNode}
 use Rattle.ap_stages.specs.Staged.{AreChoicesOf}
 use Rattle.ap_stages.specs.Stood.{AreStanding, HasStanding, Stands}
-use Rattle.ap_stages.specs.Supplies.{CanMake, IsSupplied, Suits, supply_of}
+use Rattle.ap_stages.specs.Supplies.{CanMake, Suits}
 use Rattle.ap_stages.specs.declared.nodes.Supplied.{Supplied}
 use Rattle.ap_stages.specs.declared.nodes.Supply.{Supply}
 use Rattle.ap_stages.specs.declared.nodes.Supply.TheVariants as by

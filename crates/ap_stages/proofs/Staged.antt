@@ -7,7 +7,6 @@ use Rattle.ap_desc.specs.declared.design.Node.{Node as DesignNode}
 use Rattle.ap_merge.specs.declared.table.Choice.{Choice}
 use Rattle.ap_net.specs.Draft.{Draft}
 use Rattle.ap_net.specs.Modules.{ModuleText}
-use Rattle.ap_net.proofs.Laws.{IsNet-Makes}
 use Rattle.ap_pipe.specs.declared.table.StageSlots.{StageSlots}
 use Rattle.ap_stage.specs.declared.chain.Node.{Node}
 use Rattle.ap_stage.specs.declared.node.Course.{Course}

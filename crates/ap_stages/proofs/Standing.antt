@@ -1,55 +1,38 @@
 -- What stands for the nodes of a stage stands on while wires are made, and the ports that are made of the nodes can be served.
-use Rattle.std.proofs.Common.{◌≡◌, ◌≢◌, ℕ, zero, suc, ◌<◌, ◌≤◌, List, [], ◌∷◌, ◌++◌, length, Option, Some, refl, sym, ap, subst, ◌∙◌, arith}
+use Rattle.std.proofs.Common.{◌≡◌, ℕ, List, [], ◌∷◌, Some, refl, sym, ap, subst, ◌∙◌}
 use Rattle.std.specs.Prelude.{slice_get}
 use Rattle.std.specs.List.{AllByRecursion as Each}
-use Rattle.std.proofs.lemmas.Option.{same_Some, slice_get_within}
+use Rattle.std.proofs.lemmas.Option.{same_Some}
 use Rattle.ap_bits.specs.declared.card.Card.{Card}
-use Rattle.ap_bits.specs.declared.card.Latency.TheVariants.{One}
-use Rattle.ap_desc.proofs.Members.{each_contained}
-use Rattle.ap_desc.specs.Chains.{IsChainOrder, IsNodeOf}
+use Rattle.ap_desc.specs.Chains.{IsNodeOf}
 use Rattle.ap_desc.specs.Clean.{FitsCards}
-use Rattle.ap_desc.specs.Designs.{index_bits}
 use Rattle.ap_desc.specs.declared.design.Design.{Design}
-use Rattle.ap_desc.specs.declared.design.Instr.{Instr}
 use Rattle.ap_desc.specs.declared.design.Node.{Node as DesignNode}
 use Rattle.ap_desc.specs.declared.design.Node.TheVariants as design_node
 use Rattle.ap_desc.specs.declared.design.Unit.{Unit as Resource}
-use Rattle.ap_merge.specs.Choices.{IsChoice}
-use Rattle.ap_merge.specs.Selects.{GoesOver}
-use Rattle.ap_merge.specs.declared.table.Choice.{Choice}
 use Rattle.ap_merge.specs.declared.table.Select.{Select}
 use Rattle.ap_net.specs.declared.cell.Wire.{Wire}
-use Rattle.ap_net.specs.Draft.{Draft, names_of}
+use Rattle.ap_net.specs.Draft.{Draft}
 use Rattle.ap_net.specs.Late.{StayLate}
 use Rattle.ap_net.specs.Making.{Makes}
 use Rattle.ap_net.specs.Modules.{ModuleText}
-use Rattle.ap_net.specs.Names.{IsNetName, IsNew}
+use Rattle.ap_net.specs.Names.{IsNetName}
 use Rattle.ap_net.proofs.Laws.{IsNet-Makes, IsNotNumbered-other}
-use Rattle.ap_pipe.specs.declared.table.StageSlots.{StageSlots}
-use Rattle.ap_ports.proofs.Members.{contains_at, each_get, each_of}
 use Rattle.ap_ports.specs.Numbers.{number_of_node}
 use Rattle.ap_signals.specs.NetRuns.{unit_part}
 use Rattle.ap_stage.specs.declared.chain.Node.{Node}
 use Rattle.ap_stage.specs.declared.chain.Node.TheVariants as node
 use Rattle.ap_stage.specs.declared.node.Course.{Course}
 use Rattle.ap_stage.specs.declared.source.Ground.{Ground}
-use Rattle.ap_stage.specs.Chained.{AreApart, AreNodes, IsApart, IsNode, IsWhole, UsesOnly}
-use Rattle.ap_stage.specs.Courses.{IsCourse, IsUnserved, users_of}
+use Rattle.ap_stage.specs.Chained.{IsNode}
 use Rattle.ap_stage.specs.Served.{IsGiven, IsServable, names_placed, port_of, wires_of}
 use Rattle.ap_stage.proofs.Shallow.{shallow_on}
-use Rattle.ap_unit.specs.Units.{ports_by}
-use Rattle.ap_course.specs.Instrs.{AreCoursesOf, AreNodesOf, AreOrdered, IsGroundOf}
-use Rattle.ap_course.specs.Starts.{AreConds, AreStarted, IsStarted}
-use Rattle.ap_course.proofs.Choosing.{over_users}
+use Rattle.ap_course.specs.Instrs.{AreCoursesOf, IsGroundOf}
 use Rattle.ap_course.proofs.Fitting.{fit_files, fit_mems, fit_units}
-use Rattle.ap_course.proofs.Ordered.{are_ordered}
-use Rattle.ap_stages.specs.Staged.{AreChoicesOf}
-use Rattle.ap_stages.specs.Stood.{AreApartSupplies, AreStanding, HasStanding, Stands, wires_with}
-use Rattle.ap_stages.specs.Supplies.{AreNodesFor, IsNodeBy, IsNodeFor, IsSelectionOf, quick_of, supply_of}
-use Rattle.ap_stages.specs.declared.nodes.Supplied.{Supplied}
+use Rattle.ap_stages.specs.Stood.{Stands, wires_with}
+use Rattle.ap_stages.specs.Supplies.{IsNodeBy, quick_of}
 use Rattle.ap_stages.specs.declared.nodes.Supply.{Supply}
 use Rattle.ap_stages.specs.declared.nodes.Supply.TheVariants as by
-use Rattle.ap_stages.proofs.Names.{units_named_once}
 
 -- What stands, as wires are made. ------------------------------------------------------------------------------------------
 
@@ -124,8 +107,7 @@ module _ (design : Design) (cards : List Card) (stage : ℕ) (d : Draft) (module
       let u = h.has.unit in
       let same : made.0 ≡ u = same_Some made.0 u (sym made.1 ∙ h.has.at) in
       let is : n ≡ node.Quick (quick_of u v select place bits) = made.3 ∙ ap (λ r. node.Quick (quick_of r v select place bits)) same in
-      subst (IsNode d ground courses modules) (sym is)
-      (
+      subst (IsNode d ground courses modules) (sym is) (
         h.whole,
         h.there,
         record {

@@ -13,13 +13,11 @@ use Rattle.ap_pipe.specs.declared.table.StageSlots.{StageSlots}
 use Rattle.ap_stage.specs.declared.node.Course.{Course}
 use Rattle.ap_stage.specs.declared.source.Ground.{Ground}
 use Rattle.ap_stage.specs.Sources.{IsGround}
-use Rattle.ap_stage.specs.Trees.{IsShallow}
 use Rattle.ap_stage.specs.Wiring.{IsWiring}
 use Rattle.ap_course.specs.Homes.{AreSlots}
 use Rattle.ap_course.specs.Instrs.{IsGroundOf}
-use Rattle.ap_course.specs.Starts.{AreConds, AreStarted, sources}
+use Rattle.ap_course.specs.Starts.{AreConds, AreStarted}
 use Rattle.ap_stages.specs.Links.{IsLinkOf}
-use Rattle.ap_stages.specs.declared.begin.Begun.{Begun}
 use Rattle.ap_stages.specs.declared.begin.SharedNets.{SharedNets}
 use Rattle.ap_stages.specs.declared.begin.StageNets.{StageNets}
 

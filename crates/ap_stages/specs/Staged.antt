@@ -1,5 +1,5 @@
 -- A stage whose ports serve the instructions of a design.
-use Rattle.std.specs.Prelude.{◌≡◌, ℕ, ◌++◌, List}
+use Rattle.std.specs.Prelude.{ℕ, ◌++◌, List}
 use Rattle.std.specs.List.{AllByRecursion as Each}
 use Rattle.ap_desc.specs.declared.design.Design.{Design}
 use Rattle.ap_desc.specs.declared.design.Node.{Node as DesignNode}

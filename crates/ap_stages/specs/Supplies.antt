@@ -1,6 +1,5 @@
 -- With what the nodes of a design are served in their stage.
-use Rattle.std.specs.Prelude.{◌≡◌, ℕ, ◌==◌, ◌&&◌, ◌+◌, ◌*◌, ◌<◌, Bool, true, false, Any, Contains, List, Option, Some, IsSomeAnd, find, length, slice_get}
-use Rattle.std.specs.List.{AllByRecursion as Each}
+use Rattle.std.specs.Prelude.{◌≡◌, ℕ, ◌==◌, ◌&&◌, ◌+◌, ◌*◌, ◌<◌, Bool, false, Any, Contains, List, Option, Some, IsSomeAnd, find, length, slice_get}
 use Rattle.std.specs.Option.{option_map}
 use Rattle.ap_course.specs.Choices.{port_of_node}
 use Rattle.ap_desc.specs.declared.design.Design.{Design}
@@ -11,7 +10,6 @@ use Rattle.ap_merge.specs.Choices.{HasOperand}
 use Rattle.ap_merge.specs.declared.table.Choice.{Choice}
 use Rattle.ap_merge.specs.declared.table.Select.{Select}
 use Rattle.ap_net.specs.Names.{IsNetName}
-use Rattle.ap_net.specs.declared.cell.Wire.{Wire}
 use Rattle.ap_path.specs.Uses.{path_port}
 use Rattle.ap_path.specs.declared.table.PathPort.{PathPort}
 use Rattle.ap_path.specs.declared.table.PathPort.TheVariants as path

@@ -51,7 +51,10 @@ fn line_links(act: Act) -> bool
         } => is_link(index) || is_link(value) || guard_links(guard),
         Act::WriteReg { value, guard, .. } => is_link(value) || guard_links(guard),
         Act::WriteMem {
-            at, value, guard, ..
+            at,
+            value,
+            guard,
+            ..
         } => is_link(at) || is_link(value) || guard_links(guard),
         Act::Branch { cond, target } => is_link(cond) || is_link(target),
         Act::Jump { target } => is_link(target),

@@ -25,7 +25,10 @@ use std::alloc::Global;
 pub enum Supply {
     /// A unit that takes one cycle and is to be placed: the place of its module among those of the netlist, and how many bits the number of
     /// an operation has.
-    Quick { place: u32, select_width: u32 },
+    Quick {
+        place: u32,
+        select_width: u32,
+    },
     /// A unit of several cycles that stands already: the wires that reach it, which are driven later, and its result.
     Slow {
         sel: Wire,
@@ -34,7 +37,10 @@ pub enum Supply {
         y: Wire,
     },
     /// A read port of a file or a memory that stands already: the wire of the index, which is driven later, and what is read.
-    Read { index: Wire, value: Wire },
+    Read {
+        index: Wire,
+        value: Wire,
+    },
 }
 
 /// With what the node of a number is served.
@@ -101,11 +107,7 @@ fn first_choice<'a>(choices: &'a [Choice], node: DesignNode) -> Option<&'a Choic
 }
 
 /// The selection for the first operand of the node.
-fn selection(
-    alloc: Global,
-    choices: &[Choice],
-    node: DesignNode,
-) -> Result<Select, NoMemory>
+fn selection(alloc: Global, choices: &[Choice], node: DesignNode) -> Result<Select, NoMemory>
     requires { Any (HasOperand (path_port (port_of_node node)) 0) choices.now }
     ensures { IfOk result (IsSelectionOf choices.now node) }
 {

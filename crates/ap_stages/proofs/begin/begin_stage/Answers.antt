@@ -1,8 +1,7 @@
-use Rattle.std.proofs.Common.{◌≡◌, List, sym, ap, subst}
+use Rattle.std.proofs.Common.{List, sym, subst}
 use Rattle.std.specs.List.{AllByRecursion as Each}
 use Rattle.ap_net.specs.declared.cell.Wire.{Wire}
 use Rattle.ap_net.specs.Ready.{numbers}
-use Rattle.ap_net.specs.Cells.{IsNet}
 use Rattle.ap_stage.specs.Trees.{IsShallow}
 use Rattle.ap_stage.specs.Wiring.{IsWiring}
 use Rattle.ap_course.specs.Homes.{AreSlots}

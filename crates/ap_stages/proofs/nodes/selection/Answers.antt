@@ -1,4 +1,4 @@
-use Rattle.std.proofs.Common.{◌≡◌, sym, ap, ◌∙◌}
+use Rattle.std.proofs.Common.{sym, ap, ◌∙◌}
 use Rattle.std.specs.Prelude.{option_copied}
 use Rattle.ap_stages.proofs.Selecting.{found_is, some_found}
 use Rattle.ap_stages.proofs.nodes.selection.Goals as goal

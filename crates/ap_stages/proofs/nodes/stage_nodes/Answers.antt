@@ -1,9 +1,9 @@
-use Rattle.std.proofs.Common.{◌≡◌, ◌<◌, ◌++◌, ◌∷◌, [], ◌+◌, List, length, ap, sym, subst, ◌∙◌, arith, length-append}
+use Rattle.std.proofs.Common.{◌<◌, length, arith}
 use Rattle.std.proofs.lemmas.Option.{slice_get-get_or}
 use Rattle.ap_desc.specs.declared.design.Node.TheVariants as design_node
 use Rattle.ap_ports.proofs.Members.{each_get}
 use Rattle.ap_stages.specs.Supplies.{CanMake}
-use Rattle.ap_stages.proofs.Gathering.{MadeSoFar, more_made}
+use Rattle.ap_stages.proofs.Gathering.{more_made}
 use Rattle.ap_stages.proofs.nodes.stage_nodes.Goals as goal
 
 pub node_for-requires : goal.node_for-requires
