@@ -8,3 +8,4 @@ pub mod Selecting
 pub mod Gathering
 pub mod Same
 pub mod Staged
+pub mod Onward

@@ -3,3 +3,4 @@ pub mod Supplies
 pub mod Begun
 pub mod Stood
 pub mod Staged
+pub mod Onward

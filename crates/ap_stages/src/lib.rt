@@ -4,6 +4,7 @@
 
 pub mod begin;
 mod copy;
+pub mod laws;
 mod link;
 pub mod nodes;
 pub mod stage;
