@@ -1,0 +1,11 @@
+pub mod Names
+pub mod Making
+pub mod Beginning
+pub mod Standing
+pub mod Begun
+pub mod Following
+pub mod Selecting
+pub mod Gathering
+pub mod Same
+pub mod Staged
+pub mod Onward

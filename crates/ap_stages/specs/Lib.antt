@@ -1,0 +1,6 @@
+pub mod Links
+pub mod Supplies
+pub mod Begun
+pub mod Stood
+pub mod Staged
+pub mod Onward

@@ -1,0 +1,12 @@
+//! The data of one stage after another, from a design's tables: the ports that a stage serves, the nets on which its instructions
+//! stand, and what they get from these ports.
+#![tactic(auto)]
+
+pub mod begin;
+mod copy;
+pub mod laws;
+mod link;
+pub mod nodes;
+pub mod stage;
+
+pub use ap_bits::NoMemory;
