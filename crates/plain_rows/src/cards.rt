@@ -6,9 +6,7 @@ ghost use Rattle.ap_bits.specs.declared.card.OpCard.{OpCard as DeclaredOp};
 ghost use Rattle.ap_unit.specs.Shelves.{boxed_cards_of};
 ghost use Rattle.plain_rows.specs.Shelf as shelves;
 
-use ap_bits::{
-    BinOp, Boxed, Card, Items, Latency, Name, NoMemory, OpCard, Term, UnOp, Widths,
-};
+use ap_bits::{BinOp, Boxed, Card, Items, Latency, Name, NoMemory, OpCard, Term, UnOp, Widths};
 use ap_unit::{Shelf, UnitKind};
 use std::alloc::{AllocError, Global};
 

@@ -22,8 +22,7 @@ fn writes_cell(design: &Design, at: u32, written: u32, number: u32) -> bool {
     instrs.any(|i| {
         let mut micros = i.micros.as_slice().iter();
         micros.any(|m| match m.act {
-            Act::WriteFile { file, port, .. } =>
-                m.stage == at && file == written && port == number,
+            Act::WriteFile { file, port, .. } => m.stage == at && file == written && port == number,
             _ => false,
         })
     })

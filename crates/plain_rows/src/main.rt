@@ -43,12 +43,7 @@ fn words(rt: &(impl Env + AllocGlobal)) -> io::Result<Vec<String>> {
 }
 
 /// What a file holds, or as much of it as shows that it is longer than the limit.
-fn file<D: Desk>(
-    alloc: Global,
-    desk: &mut D,
-    name: &str,
-    limit: usize,
-) -> Result<Vec<u8>, Fault>
+fn file<D: Desk>(alloc: Global, desk: &mut D, name: &str, limit: usize) -> Result<Vec<u8>, Fault>
     requires { limit ≤ 67108864 }
 {
     if name == "" || name == "-" {
@@ -105,7 +100,7 @@ fn status(rt: &HostRuntime) -> io::Result<u8> {
     let mut desk = FileDesk::new(rt);
     match printed(alloc, &shelf, cards.as_slice(), &words, &mut desk) {
         Ok(text) => {
-            io::stdout(rt).write_all(&text)?;
+            rt.stdout().write_all(&text)?;
             Ok(0)
         }
         Err(fault) => {
