@@ -1,33 +1,12 @@
 -- The address after a word and its slots, in the stages where a line names it.
-use Rattle.std.specs.Prelude.{◌≡◌, ℕ, ◌==◌, ◌&&◌, Bool, true, false}
-use Rattle.std.specs.List.{list_any}
-use Rattle.ap_desc.specs.Chains.{operands_of}
-use Rattle.ap_desc.specs.declared.design.Act.{Act}
-use Rattle.ap_desc.specs.declared.design.Arg.{Arg}
-use Rattle.ap_desc.specs.declared.design.Arg.TheVariants as arg
+use Rattle.std.specs.Prelude.{◌≡◌, ℕ, true}
 use Rattle.ap_desc.specs.declared.design.Design.{Design}
-use Rattle.ap_desc.specs.declared.design.Instr.{Instr}
-use Rattle.ap_desc.specs.declared.design.Micro.{Micro}
 use Rattle.ap_model.specs.Fire.{link_of}
 use Rattle.ap_net.specs.declared.cell.Wire.{Wire}
 use Rattle.ap_net.specs.Cells.{IsNet}
 use Rattle.ap_net.specs.Draft.{Draft}
 use Rattle.ap_net.specs.Readings.{Always}
-
-abbrev pub is_link : Arg → Bool
-is_link arg.Link = true
-is_link _ = false
-
--- an operand of the line is this address
-abbrev pub line_links : Act → Bool
-line_links a = list_any is_link (operands_of a)
-
--- and of a line of the instruction, or of any, in the stage
-abbrev pub instr_links : ℕ → Instr → Bool
-instr_links stage instr = list_any (λ (m : Micro). (m.stage == stage) && line_links m.act) instr.micros
-
-abbrev pub links : Design → ℕ → Bool
-links design stage = list_any (instr_links stage) design.instrs
+use Rattle.ap_course.specs.Links.{links}
 
 -- the net has the bits of an address, and is the address after the word at `place` and its slots, where a line of the stage names that
 pub record IsLinkOf (design : Design) (stage : ℕ) (d : Draft) (place link : Wire) : Type 0 where

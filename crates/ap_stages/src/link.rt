@@ -6,7 +6,8 @@ ghost use Rattle.ap_desc.specs.Clean.{IsClean};
 ghost use Rattle.ap_net.specs.Cells.{IsNet};
 ghost use Rattle.ap_net.specs.Draft.{CanFresh};
 ghost use Rattle.ap_stage.specs.Wiring.{IsWiring};
-ghost use Rattle.ap_stages.specs.Links.{IsLinkOf, instr_links, is_link, line_links, links};
+ghost use Rattle.ap_course.specs.Links.{instr_links, is_link, line_links, links};
+ghost use Rattle.ap_stages.specs.Links.{IsLinkOf};
 
 use ap_bits::NoMemory;
 use ap_desc::design::{Act, Arg, Design, Instr};
