@@ -1,8 +1,7 @@
 -- What an instruction asks of a unit, as the border wants it.
-use Rattle.std.proofs.Common.{◌≡◌, ℕ, sym, subst}
+use Rattle.std.proofs.Common.{ℕ, sym, subst}
 use Rattle.ap_desc.specs.declared.design.Arg.{Arg}
 use Rattle.ap_net.specs.Readings.{Reading}
-use Rattle.ap_stage.specs.Shown.{course_value}
 use Rattle.ap_data.specs.Units.{AsksInstance, UnitsAreAsked}
 use Rattle.ap_asked.specs.Served.{StagesAskUnits}
 

@@ -1,5 +1,5 @@
 -- Served units are what the border asks.
-use Rattle.std.proofs.Common.{◌≡◌, ◌≢◌, ℕ, zero, suc, ◌-◌, ◌<◌, ◌≤◌, ◌==◌, ◌&&◌, Bool, true, false, List, [], ◌∷◌, ◌++◌, flat_map, get_or, length, map, refl, sym, ap, subst, ◌∙◌, arith}
+use Rattle.std.proofs.Common.{◌≡◌, ℕ, zero, suc, ◌-◌, ◌<◌, ◌≤◌, ◌==◌, ◌&&◌, Bool, true, false, List, [], ◌∷◌, ◌++◌, flat_map, get_or, length, map, refl, sym, ap, subst, ◌∙◌, arith}
 use Rattle.std.specs.Prelude.{codes, nat_lt, not, slice_get, Option, Some}
 use Rattle.std.specs.Option.{option_map_or}
 use Rattle.std.specs.List.{AllByRecursion as Each, list_any}
@@ -29,7 +29,6 @@ use Rattle.ap_net.specs.Modules.{IsModule, ModuleText, module_named, nets_of, po
 use Rattle.ap_net.specs.Runs.{bit}
 use Rattle.ap_net.proofs.Lists.{All-join, some_same}
 use Rattle.ap_net.proofs.Parts.{All-named}
-use Rattle.ap_signals.specs.NetRuns.{unit_part}
 use Rattle.ap_signals.specs.NetSignals.{is_slow_unit_of}
 use Rattle.ap_unit.specs.Units.{out_port, ports_by}
 use Rattle.ap_ctl.specs.declared.nets.ControlGiven.{ControlGiven}
@@ -38,10 +37,6 @@ use Rattle.ap_ctl.specs.Given.{IsWordNet, is_used_in}
 use Rattle.ap_ctl.specs.Meaning.{is_held}
 use Rattle.ap_ctl.specs.Nets.{AreDecoded, Shows}
 use Rattle.ap_ctl.proofs.Beside.{EachPair-at, each_get, no_wire}
-use Rattle.ap_border.specs.Control.{IsBusyOf}
-use Rattle.ap_border.specs.SlowUnits.{HasSlowUnit}
-use Rattle.ap_stage.specs.declared.serve.SlowUnit.{SlowUnit}
-use Rattle.ap_data.specs.Units.{JoinsUnit}
 use Rattle.ap_parts.specs.Known.{HasParts, HasUnitNamed, Knows}
 use Rattle.ap_parts.proofs.KnownPorts.{card_at}
 use Rattle.ap_parts.proofs.Lists.{some_and}
@@ -49,7 +44,7 @@ use Rattle.ap_slow.specs.declared.place.SlowPlaced.{SlowPlaced}
 use Rattle.ap_slow.specs.Asking.{AskingIsShown, IsStageOf}
 use Rattle.ap_slow.specs.Driven.{IsDriven, IsServedIn, unit_stage}
 use Rattle.ap_slow.proofs.Stage.{stage_uses, used_somewhere}
-use Rattle.ap_asked.specs.Served.{GivesSlowUnit, HasWires, IsServedUnit, IsTopWithControl, ServedUnitsAreJoined, ServedUnitsGiveBorder, ServedUnitsGiveBusy, ServedUnitsShowBusy}
+use Rattle.ap_asked.specs.Served.{GivesSlowUnit, IsServedUnit, IsTopWithControl, ServedUnitsAreJoined, ServedUnitsGiveBorder, ServedUnitsGiveBusy, ServedUnitsShowBusy}
 
 head_differs : (a b : ℕ) (xs ys : List ℕ) → (a == b) ≡ false → a ∷ xs ≡ b ∷ ys → ⊥
 head_differs a b xs ys d e = let same : a ≡ b = cc in eqb-false a b d same
@@ -87,7 +82,6 @@ module _ (knows : Knows) (cards : List Card) (design : Design) (d : Draft) (modu
       ap (λ (ps : List Port). slice_get (map port_net ps ++ map wire_net (mine.whole).wires ++ map reg_net (mine.whole).regs) 5) is
 
 pub shows_busy : ServedUnitsShowBusy
-
 shows_busy knows cards design d modules nets fits parts top x h = record {
   resource = h.resource;
   at = h.at;
