@@ -1,25 +1,17 @@
 -- What stands for nodes that a stage leaves, stands on.
-use Rattle.std.proofs.Common.{◌≡◌, ℕ, List, refl, sym, subst}
-use Rattle.std.specs.List.{AllByRecursion as Each}
-use Rattle.ap_bits.specs.declared.card.Card.{Card}
+use Rattle.std.proofs.Common.{ℕ, List, refl, sym, subst}
 use Rattle.ap_desc.proofs.OnePort.{each_as}
-use Rattle.ap_desc.specs.declared.design.Design.{Design}
-use Rattle.ap_desc.specs.declared.design.Node.{Node as DesignNode}
 use Rattle.ap_desc.specs.declared.design.Node.TheVariants as design_node
 use Rattle.ap_net.specs.declared.cell.Wire.{Wire}
 use Rattle.ap_net.specs.Cells.{IsNet}
 use Rattle.ap_net.specs.Draft.{Adds, Draft}
-use Rattle.ap_net.specs.Modules.{ModuleText}
 use Rattle.ap_net.specs.Names.{IsNew}
 use Rattle.ap_net.proofs.Laws.{IsNet-Adds, IsNotNumbered-other}
 use Rattle.ap_signals.specs.NetRuns.{unit_part}
-use Rattle.ap_stage.specs.declared.chain.Node.{Node}
-use Rattle.ap_stage.specs.Served.{IsGiven, ServesNodes}
+use Rattle.ap_stage.specs.Served.{IsGiven}
 use Rattle.ap_stage.proofs.Shallow.{shallow_on}
 use Rattle.ap_stages.specs.Begun.{AreWide}
-use Rattle.ap_stages.specs.Onward.{IsLeft, OthersStand, SharedGoOn}
-use Rattle.ap_stages.specs.Stood.{Stands}
-use Rattle.ap_stages.specs.declared.nodes.Supply.{Supply}
+use Rattle.ap_stages.specs.Onward.{OthersStand, SharedGoOn}
 use Rattle.ap_stages.specs.declared.nodes.Supply.TheVariants as by
 
 given_adds : (a b : Draft) (y : Wire) → Adds a b → IsGiven a y → IsGiven b y
