@@ -1,8 +1,7 @@
 //! The kinds of units that the program knows, as cards and as a shelf.
-ghost use Rattle.std.specs.Prelude.{◌≡◌, ◌∷◌, ◌++◌, [], IfOk, OnOk};
+ghost use Rattle.std.specs.Prelude.{◌≡◌, IfOk};
 ghost use Rattle.ap_bits.specs.KindCards as kinds;
 ghost use Rattle.ap_bits.specs.Names.{IsName};
-ghost use Rattle.ap_bits.specs.declared.card.OpCard.{OpCard as DeclaredOp};
 ghost use Rattle.ap_unit.specs.Shelves.{boxed_cards_of};
 ghost use Rattle.plain_rows.specs.Shelf as shelves;
 

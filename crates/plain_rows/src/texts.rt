@@ -1,12 +1,10 @@
 //! From the texts of a description, an image and a trace to the text of the rows.
-ghost use Rattle.std.specs.Prelude.{◌≡◌, ◌++◌, length, map, string_bytes, IfOk, OnOk};
-ghost use Rattle.ap_desc.specs.Clean.{FitsCards, IsClean};
+ghost use Rattle.std.specs.Prelude.{◌≡◌, ◌++◌, map, string_bytes, IfOk, OnOk};
 ghost use Rattle.ap_image.specs.FitsShape.{ImageFitsShape, TraceFitsShape};
 ghost use Rattle.ap_image.specs.ImageTexts.{image_of};
 ghost use Rattle.ap_image.specs.TraceTexts.{trace_of};
-ghost use Rattle.ap_model.specs.DesignShape as shapes;
 ghost use Rattle.ap_text.specs.Lines.{lines_of};
-ghost use Rattle.ap_unit.specs.Shelves.{boxed_cards_of, cards_of};
+ghost use Rattle.ap_unit.specs.Shelves.{cards_of};
 ghost use Rattle.plain_rows.specs.Lines.{line_at, lines_of_rows};
 ghost use Rattle.plain_rows.specs.PlainRows.{ArePlainRows, Describes};
 
