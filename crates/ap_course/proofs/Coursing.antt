@@ -30,7 +30,7 @@ use Rattle.ap_stage.specs.Sources.{LieIn, LiesIn, source_numbers}
 use Rattle.ap_stage.specs.Trees.{IsShallow}
 use Rattle.ap_stage.proofs.Followed.{each_some, each_then, reads_fewer}
 use Rattle.ap_stage.proofs.Listed.{each_among}
-use Rattle.ap_course.specs.Homes.{AreSlots, AreStored, stored_of}
+use Rattle.ap_course.specs.Homes.{AreSlots, AreStored, IsHomed, stored_of}
 use Rattle.ap_course.specs.Instrs.{HasLive, IsCourseOf, IsGroundOf}
 use Rattle.ap_course.specs.Lines.{lines_of, scope_of, uses_of}
 use Rattle.ap_course.specs.Starts.{HasLocal, IsStarted, IsStartRow, sources, start_numbers}
@@ -95,7 +95,7 @@ module _ (design : Design) (cards : List Card) (stage k : ℕ) (instr : Instr) (
         let (j, s, there, number) = all_stored.live i live in
         let from = stored_from design cards nets stage k instr widths homes slots fits at are registers j s there in
         let home = homed homes slots k (0 + from.place) s from.gives in
-        record { stored = s; local = number; home = record { home = home.home; there = home.there; instr = home.instr; local = home.local ∙ sym home.number ∙ number; slot = home.slot; number = number }; has = start.has j s there }
+        record { stored = s; local = number; home = subst (λ n. IsHomed homes slots k n s) (sym home.number ∙ number) home; has = start.has j s there }
 
     has_live : HasLive design stage instr c
     has_live i live = let h = live_has i live in (h.has.net, ap (slice_get c.row.items) (sym h.local) ∙ h.has.at)

@@ -1,5 +1,5 @@
 -- The live locals of an instruction stand in slots.
-use Rattle.std.proofs.Common.{◌≡◌, ◌≢◌, ℕ, ◌+◌, ◌<◌, ◌≤◌, ◌==◌, Bool, true, false, cond, List, [], ◌∷◌, length, filter, filter_map, find, get_or, Option, Some, None, inl, inr, refl, sym, ap, subst, ◌∙◌, arith, eqb-true, eq-eqb}
+use Rattle.std.proofs.Common.{◌≡◌, ◌≢◌, ℕ, ◌+◌, ◌<◌, ◌≤◌, ◌==◌, ◌&&◌, Bool, true, false, cond, List, [], ◌∷◌, length, filter, filter_map, find, get_or, Option, Some, None, inl, inr, refl, sym, ap, subst, ◌∙◌, arith, eqb-true, eq-eqb}
 use Rattle.std.specs.Prelude.{nat_lt, Contains, IsSomeAnd, option_and_then, option_map, slice_get, slice_index}
 use Rattle.std.specs.List.{cons_option, range_with_len}
 use Rattle.std.specs.Option.{option_map_or}
@@ -81,6 +81,15 @@ finds {X} test (y ∷ xs) x h passes = go (test y) refl h (λ rest. finds test x
     go false e (inl same) later = let wrong : false ≡ true = sym e ∙ ap test (sym same) ∙ passes in absurd cc
     go false e (inr rest) later = later rest
 
+-- the first of those that pass a test is the first that passes both
+first_of_both : {X : Type 0} (own test : X → Bool) (xs : List X) → find test (filter own xs) ≡ find (λ x. own x && test x) xs
+first_of_both own test [] = refl
+first_of_both {X} own test (y ∷ xs) = go (own y) (first_of_both own test xs)
+  where
+    go : (b : Bool) → find test (filter own xs) ≡ find (λ x. own x && test x) xs → find test (cond b (y ∷ filter own xs) (filter own xs)) ≡ cond (b && test y) (Some y) (find (λ x. own x && test x) xs)
+    go true later = ap (cond (test y) (Some y)) later
+    go false later = later
+
 pub homed : (homes : List Home) (slots : List Wire) (k i : ℕ) (s : Stored) → stored_at (homes_in homes k) slots i ≡ Some s → IsHomed homes slots k i s
 homed homes slots k i s e = go (find (λ (h : Home). h.local == i) (homes_in homes k)) refl e
   where
@@ -93,6 +102,7 @@ homed homes slots k i s e = go (find (λ (h : Home). h.local == i) (homes_in hom
         record {
           home = h;
           there = in_contains homes h own.0;
+          first = sym (first_of_both (λ (x : Home). x.instr == k) (λ (x : Home). x.local == i) homes) ∙ found;
           instr = eqb-true h.instr k own.1;
           local = eqb-true h.local i here.1;
           slot = at ∙ ap (λ (x : Stored). Some x.slot) same;

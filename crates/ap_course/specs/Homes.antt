@@ -1,5 +1,5 @@
 -- Where a stage finds the locals of an instruction that come from earlier stages: in the slots of their homes.
-use Rattle.std.specs.Prelude.{◌≡◌, ◌≢◌, ℕ, ◌==◌, true, Contains, List, filter, filter_map, find, map, slice_get, Option, Some}
+use Rattle.std.specs.Prelude.{◌≡◌, ◌≢◌, ℕ, ◌==◌, ◌&&◌, true, Contains, List, filter, filter_map, find, map, slice_get, Option, Some}
 use Rattle.std.specs.List.{AllByRecursion as Each, range_with_len}
 use Rattle.std.specs.Option.{option_and_then, option_map}
 use Rattle.ap_desc.specs.declared.design.Design.{Design}
@@ -31,10 +31,11 @@ stored_at homes slots i = option_and_then (in_home slots i) (find (λ (h : Home)
 abbrev pub stored_of : List Home → List Wire → ℕ → ℕ → List Stored
 stored_of homes slots number count = filter_map (stored_at (homes_in homes number) slots) (range_with_len 0 count)
 
--- the home and the slot behind a stored local
+-- the home and the slot behind a stored local: of all homes the first that is the local's
 pub record IsHomed (homes : List Home) (slots : List Wire) (k i : ℕ) (s : Stored) : Type 0 where
   pub home : Home
   pub there : Contains homes home
+  pub first : find (λ (h : Home). (h.instr == k) && (h.local == i)) homes ≡ Some home
   pub instr : home.instr ≡ k
   pub local : home.local ≡ i
   pub slot : slice_get slots home.slot ≡ Some s.slot

@@ -4,3 +4,4 @@ pub mod Instrs
 pub mod Laws
 pub mod Starts
 pub mod Choices
+pub mod Links

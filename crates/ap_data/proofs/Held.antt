@@ -9,7 +9,7 @@ use Rattle.std.proofs.lemmas.Option.{same_Some, slice_get_within}
 use Rattle.ap_bits.specs.Cards.{operation_value}
 use Rattle.ap_bits.specs.Operations.{sign_extended}
 use Rattle.ap_bits.specs.declared.card.Card.{Card}
-use Rattle.ap_desc.specs.Chains.{maker_in, makers}
+use Rattle.ap_desc.specs.Chains.{maker_in, makers, operands_of}
 use Rattle.ap_desc.specs.Clean.{FitsCards, IsClean}
 use Rattle.ap_desc.specs.Designs.{Matches, arg_width, assigned_count, field_value, fields_of}
 use Rattle.ap_desc.specs.Shelf.{HasOperation}
@@ -59,7 +59,8 @@ use Rattle.ap_course.proofs.Numbered.{given_there}
 use Rattle.ap_course.proofs.Whole.{maker_numbered, portless_or_port}
 use Rattle.ap_border.specs.Files.{HasFiles}
 use Rattle.ap_border.specs.StageData.{GivesLine, HasInstr, IsMatched, ReadsFile, ReadsMem, WhereMatched}
-use Rattle.ap_data.specs.Stage.{IsPortOf, IsStageOf, StagesHaveData}
+use Rattle.ap_data.proofs.Operands.{same_by_net}
+use Rattle.ap_data.specs.Stage.{IsPortOf, IsStageOf, StagesHaveData, data_value}
 use Rattle.ap_data.specs.Units.{AsksInstance, JoinsUnit, UnitsAreAsked}
 
 -- Lists. ----------------------------------------------------------------------------------------------------------------
@@ -203,7 +204,15 @@ module _ (apart_words : (design : Design) → IsClean design → AreApart design
     Matched r = IsMatched d modules base.word instr r
 
     abbrev value : Reading → Arg → ℕ
-    value r a = course_value r base c a
+    value r a = data_value design r base c a
+
+    -- the values by nets
+    abbrev by_net : Reading → Arg → ℕ
+    by_net r a = course_value r base c a
+
+    -- an operand of a line of the stage has its value by a net
+    same : (i j : ℕ) (m : Micro) (a : Arg) → slice_get instr.micros i ≡ Some m → m.stage ≡ stage → slice_get (operands_of m.act) j ≡ Some a → (r : Reading) → Matched r → by_net r a ≡ value r a
+    same i j m a line here operand r matched = same_by_net design d stage k base c a s.link (record { instr = instr; at = at; place = i; line = m; there = line; in_stage = here; number = j; operand = operand }) r matched.settled
 
     of : IsCourseOf design stage instr c
     of = s.of k instr c at there
@@ -249,6 +258,11 @@ module _ (apart_words : (design : Design) → IsClean design → AreApart design
           let found = given_there (line_of stage) 0 (makers instr) n m (record { act = a; local = n }) maker gives in
           (found.0, ap (λ ls. slice_get ls found.0) of.lines ∙ found.1)
 
+      same_there : (j : ℕ) (o : Arg) → slice_get (operands_of a) j ≡ Some o → (r : Reading) → Matched r → by_net r o ≡ value r o
+      same_there j o operand =
+          let line = from_filter (λ (x : Micro). assigned_count x.act == 1) instr.micros n m maker in
+          same line.0 j m o line.1 here (ap (λ x. slice_get (operands_of x) j) is ∙ operand)
+
       line_shown : is_portless a ≡ true → (r : Reading) → Matched r → line_value r base c.scope c.row.items a ≡ Some (value r (arg.Local n))
       line_shown portless r matched =
           let line = line_there portless in
@@ -285,23 +299,23 @@ module _ (apart_words : (design : Design) → IsClean design → AreApart design
 
     -- Ports.
 
-    quick : (n unit op : ℕ) (a b : Arg) (x : Node) → HasOperation cards design (act.Compute unit op a b) → IsPortOf design cards d modules files units (design_node.Unit unit) x
+    quick : (n unit op : ℕ) (a b : Arg) (x : Node) → ((r : Reading) → Matched r → by_net r a ≡ value r a) → ((r : Reading) → Matched r → by_net r b ≡ value r b) → HasOperation cards design (act.Compute unit op a b) → IsPortOf design cards d modules files units (design_node.Unit unit) x
         → ((r : Reading) → Matched r → ShowsUse r base units c (record { port = unit; asked = asked.Operate (record { op = op; a = a; b = b }); local = n }) x) → is_quick design (act.Compute unit op a b) ≡ true
         → WhereMatched d modules base.word instr (λ r. value r (arg.Local n) ≡ unit_value design cards unit op (value r a) (value r b))
-    quick n unit op a b (node.Quick q) has p shows fast r m =
+    quick n unit op a b (node.Quick q) first_is second_is has p shows fast r m =
         let first = subst (λ o. IsSomeAnd o (λ (u : Resource). IsSomeAnd (slice_get cards u.kind) (λ (x : Card). op < length x.ops))) p.at has in
         let few : op < length (p.card).ops = subst (λ o. IsSomeAnd o (λ (x : Card). op < length x.ops)) p.of_card first in
         shows r m p.m p.whole p.card p.is_module (ap (λ l. module_named l (p.m).name) m.over ∙ p.found) p.computes few
-        ∙ ap (λ w. operation_value p.card w op (value r a) (value r b)) p.width ∙ sym (unit_is design cards unit op (value r a) (value r b) p.resource p.card p.at p.of_card)
-    quick n unit op a b (node.Slow x) has slow shows fast r m = absurd (false≢true (sym (ap not slow) ∙ fast))
-    quick n unit op a b (node.Read x) has p shows fast r m = absurd p
+        ∙ (λ i. operation_value p.card (p.width i) op (first_is r m i) (second_is r m i)) ∙ sym (unit_is design cards unit op (value r a) (value r b) p.resource p.card p.at p.of_card)
+    quick n unit op a b (node.Slow x) first_is second_is has slow shows fast r m = absurd (false≢true (sym (ap not slow) ∙ fast))
+    quick n unit op a b (node.Read x) first_is second_is has p shows fast r m = absurd p
 
-    file_read : (n file number : ℕ) (index : Arg) (x : Node) → IsPortOf design cards d modules files units (design_node.FileRead file number) x
+    file_read : (n file number : ℕ) (index : Arg) (x : Node) → ((r : Reading) → Matched r → by_net r index ≡ value r index) → IsPortOf design cards d modules files units (design_node.FileRead file number) x
         → ((r : Reading) → Matched r → ShowsUse r base units c (record { port = 32 + 4 * file + number; asked = asked.Read index; local = n }) x)
         → ReadsFile design d modules files base.word instr file number (λ r. value r index) (λ r. value r (arg.Local n))
-    file_read n file number index (node.Quick q) p shows = absurd p
-    file_read n file number index (node.Slow q) p shows = absurd p
-    file_read n file number index (node.Read x) p shows =
+    file_read n file number index (node.Quick q) index_is p shows = absurd p
+    file_read n file number index (node.Slow q) index_is p shows = absurd p
+    file_read n file number index (node.Read x) index_is p shows =
         let h = files.each file p.of p.at in
         let joined : (r : Reading) → Matched r → (j : ℕ) (w : Wire) → slice_get (h.of).nets j ≡ Some w → r.parts h.k j ≡ r.read w.number =
         λ r m j w there. ((m.settled).each h.k h.of h.whole h.placed (ap (λ (l : List ModuleText). module_named l (h.of).module) m.over ∙ h.found)).joined j w there in
@@ -309,21 +323,21 @@ module _ (apart_words : (design : Design) → IsClean design → AreApart design
           of = p.of;
           at = p.at;
           within = p.within;
-          asks = λ r m. joined r m (read_index number) x.index p.index ∙ (shows r m).index;
+          asks = λ r m. joined r m (read_index number) x.index p.index ∙ (shows r m).index ∙ index_is r m;
           reads = λ r m. (shows r m).result ∙ sym (joined r m (read_value number) x.value p.value);
         }
 
-    mem_read : (n mem : ℕ) (index : Arg) (x : Node) → IsPortOf design cards d modules files units (design_node.MemRead mem) x
+    mem_read : (n mem : ℕ) (index : Arg) (x : Node) → ((r : Reading) → Matched r → by_net r index ≡ value r index) → IsPortOf design cards d modules files units (design_node.MemRead mem) x
         → ((r : Reading) → Matched r → ShowsUse r base units c (record { port = 64 + mem; asked = asked.Read index; local = n }) x)
         → ReadsMem design d modules base.word instr mem (λ r. value r index) (λ r. value r (arg.Local n))
-    mem_read n mem index (node.Quick q) p shows = absurd p
-    mem_read n mem index (node.Slow q) p shows = absurd p
-    mem_read n mem index (node.Read x) p shows = record {
+    mem_read n mem index (node.Quick q) index_is p shows = absurd p
+    mem_read n mem index (node.Slow q) index_is p shows = absurd p
+    mem_read n mem index (node.Read x) index_is p shows = record {
       of = p.of;
       at = p.at;
       asked = x.index;
       asked_named = p.index;
-      asks = λ r m. (shows r m).index;
+      asks = λ r m. (shows r m).index ∙ index_is r m;
       net = x.value;
       named = p.value;
       reads = λ r m. (shows r m).result;
@@ -335,15 +349,15 @@ module _ (apart_words : (design : Design) → IsClean design → AreApart design
     gives n m maker here (act.Compute unit op a b) is = λ fast.
         let used = use_there n m maker here (act.Compute unit op a b) is (record { port = unit; asked = asked.Operate (record { op = op; a = a; b = b }); local = n }) refl in
         let shows = use_shown used.0 (record { port = unit; asked = asked.Operate (record { op = op; a = a; b = b }); local = n }) (design_node.Unit unit) used.1 refl (subst IsNumbered is (maker_numbered design cards k instr fits at n m maker)) in
-        quick n unit op a b shows.1 (operation_there n m maker here (act.Compute unit op a b) is) shows.4 shows.5 fast
+        quick n unit op a b shows.1 (same_there n m maker here (act.Compute unit op a b) is 0 a refl) (same_there n m maker here (act.Compute unit op a b) is 1 b refl) (operation_there n m maker here (act.Compute unit op a b) is) shows.4 shows.5 fast
     gives n m maker here (act.ReadFile file number index) is =
         let used = use_there n m maker here (act.ReadFile file number index) is (record { port = 32 + 4 * file + number; asked = asked.Read index; local = n }) refl in
         let shows = use_shown used.0 (record { port = 32 + 4 * file + number; asked = asked.Read index; local = n }) (design_node.FileRead file number) used.1 refl (subst IsNumbered is (maker_numbered design cards k instr fits at n m maker)) in
-        file_read n file number index shows.1 shows.4 shows.5
+        file_read n file number index shows.1 (same_there n m maker here (act.ReadFile file number index) is 0 index refl) shows.4 shows.5
     gives n m maker here (act.ReadMem mem index) is =
         let used = use_there n m maker here (act.ReadMem mem index) is (record { port = 64 + mem; asked = asked.Read index; local = n }) refl in
         let shows = use_shown used.0 (record { port = 64 + mem; asked = asked.Read index; local = n }) (design_node.MemRead mem) used.1 refl (subst IsNumbered is (maker_numbered design cards k instr fits at n m maker)) in
-        mem_read n mem index shows.1 shows.4 shows.5
+        mem_read n mem index shows.1 (same_there n m maker here (act.ReadMem mem index) is 0 index refl) shows.4 shows.5
     gives n m maker here (act.ReadReg reg) is =
         let inside : reg < length base.regs = (line_is n m maker here (act.ReadReg reg) is refl).names in
         let same = same_count (λ (w : Wire). w.width) (λ (r : Reg). r.width) base.regs design.regs (s.nets).regs in
@@ -371,13 +385,17 @@ module _ (apart_words : (design : Design) → IsClean design → AreApart design
           reads = λ x matched. sym (same_Some (x.read (w.0).number) (value x (arg.Local n)) (sym (ap (option_map (λ (z : Wire). x.read z.number)) w.1) ∙ line_shown n m maker here (act.ReadIn input) is refl x matched));
         }
     gives n m maker here (act.Const width number) is = λ r matched. sym (same_Some number (value r (arg.Local n)) (line_shown n m maker here (act.Const width number) is refl r matched))
-    gives n m maker here (act.Zext width a) is = λ r matched. sym (same_Some (value r a) (value r (arg.Local n)) (line_shown n m maker here (act.Zext width a) is refl r matched))
+    gives n m maker here (act.Zext width a) is = λ r matched. sym (same_Some (by_net r a) (value r (arg.Local n)) (line_shown n m maker here (act.Zext width a) is refl r matched)) ∙ same_there n m maker here (act.Zext width a) is 0 a refl r matched
     gives n m maker here (act.Sext width a) is = λ r matched.
-        sym (same_Some (sign_extended (value r a) (bits_of base c.scope a) width) (value r (arg.Local n)) (line_shown n m maker here (act.Sext width a) is refl r matched)) ∙ ap (λ b. sign_extended (value r a) b width) (bits_are a)
+        let operand = same_there n m maker here (act.Sext width a) is 0 a refl r matched in
+        sym (same_Some (sign_extended (by_net r a) (bits_of base c.scope a) width) (value r (arg.Local n)) (line_shown n m maker here (act.Sext width a) is refl r matched)) ∙ (λ i. sign_extended (operand i) (bits_are a i) width)
     gives n m maker here (act.Slice high low a) is = λ r matched.
-        sym (same_Some ((value r a / 2 ^ low) % 2 ^ (high - low + 1)) (value r (arg.Local n)) (line_shown n m maker here (act.Slice high low a) is refl r matched))
+        sym (same_Some ((by_net r a / 2 ^ low) % 2 ^ (high - low + 1)) (value r (arg.Local n)) (line_shown n m maker here (act.Slice high low a) is refl r matched))
+        ∙ ap (λ x. (x / 2 ^ low) % 2 ^ (high - low + 1)) (same_there n m maker here (act.Slice high low a) is 0 a refl r matched)
     gives n m maker here (act.Cat a b) is = λ r matched.
-        sym (same_Some (value r a * 2 ^ bits_of base c.scope b + value r b) (value r (arg.Local n)) (line_shown n m maker here (act.Cat a b) is refl r matched)) ∙ ap (λ w. value r a * 2 ^ w + value r b) (bits_are b)
+        let first = same_there n m maker here (act.Cat a b) is 0 a refl r matched in
+        let second = same_there n m maker here (act.Cat a b) is 1 b refl r matched in
+        sym (same_Some (by_net r a * 2 ^ bits_of base c.scope b + by_net r b) (value r (arg.Local n)) (line_shown n m maker here (act.Cat a b) is refl r matched)) ∙ (λ i. first i * 2 ^ bits_are b i + second i)
     gives n m maker here (act.WriteFile file number index v guard) is = absurd (no_maker n m maker (act.WriteFile file number index v guard) is refl refl)
     gives n m maker here (act.WriteReg reg v guard) is = absurd (no_maker n m maker (act.WriteReg reg v guard) is refl refl)
     gives n m maker here (act.WriteMem mem index v guard) is = absurd (no_maker n m maker (act.WriteMem mem index v guard) is refl refl)
@@ -389,7 +407,7 @@ module _ (apart_words : (design : Design) → IsClean design → AreApart design
       value = value;
       field = λ i r m. ap (λ (z : Scope). option_map_or (λ (f : Field). field_value f (r.read base.word.number)) (slice_get z.fields i) 0) of.scope;
       pc = λ r m. refl;
-      link = λ r m. s.link.holds r m.settled;
+      link = λ r m. refl;
       old = λ seen i is live.
           let slot = s.slots k i instr c at there (live_in design seen stage i instr is live) in
           record { slot = slot.slot; from = slot.from; named = slot.named; reads = λ r m. slot.reads.holds r m.settled };
@@ -404,20 +422,20 @@ module _ (apart_words : (design : Design) → IsClean design → AreApart design
       Asks r n op a b = (value r (arg.Local n) ≡ r.parts part 6) × (r.parts part 0 ≡ op) × (r.parts part 1 ≡ value r a) × (r.parts part 2 ≡ value r b)
 
       unit_asked : (n op : ℕ) (a b : Arg) (place : ℕ) (x : Node) → slice_get nodes place ≡ Some x → port_of x ≡ unit → IsPortOf design cards d modules files units (design_node.Unit unit) x
-          → ((r : Reading) → Matched r → ShowsUse r base units c (record { port = unit; asked = asked.Operate (record { op = op; a = a; b = b }); local = n }) x) → (r : Reading) → Matched r → Asks r n op a b
-      unit_asked n op a b place (node.Quick q) x_at same p shows r m = absurd (false≢true (sym p.fast ∙ slow))
-      unit_asked n op a b place (node.Read x) x_at same p shows r m = absurd p
-      unit_asked n op a b place (node.Slow x) x_at same p shows r m =
-          let j = joins place x x_at same in
+          → ((r : Reading) → Matched r → by_net r a ≡ value r a) → ((r : Reading) → Matched r → by_net r b ≡ value r b) → ((r : Reading) → Matched r → ShowsUse r base units c (record { port = unit; asked = asked.Operate (record { op = op; a = a; b = b }); local = n }) x) → (r : Reading) → Matched r → Asks r n op a b
+      unit_asked n op a b place (node.Quick q) x_at number p first_is second_is shows r m = absurd (false≢true (sym p.fast ∙ slow))
+      unit_asked n op a b place (node.Read x) x_at number p first_is second_is shows r m = absurd p
+      unit_asked n op a b place (node.Slow x) x_at number p first_is second_is shows r m =
+          let j = joins place x x_at number in
           let joined : (i : ℕ) (w : Wire) → slice_get (j.of).nets i ≡ Some w → r.parts part i ≡ r.read w.number =
           λ i w there. ((m.settled).each part j.of j.whole j.placed (ap (λ (l : List ModuleText). module_named l (j.of).module) m.over ∙ j.found)).joined i w there in
-          ((shows r m).result ∙ sym (joined 6 x.y j.y), joined 0 x.sel j.sel ∙ (shows r m).sel, joined 1 x.a j.a ∙ (shows r m).a, joined 2 x.b j.b ∙ (shows r m).b)
+          ((shows r m).result ∙ sym (joined 6 x.y j.y), joined 0 x.sel j.sel ∙ (shows r m).sel, joined 1 x.a j.a ∙ (shows r m).a ∙ first_is r m, joined 2 x.b j.b ∙ (shows r m).b ∙ second_is r m)
 
       line_asked : (n op : ℕ) (a b : Arg) (m : Micro) → slice_get (makers instr) n ≡ Some m → m.stage ≡ stage → m.act ≡ act.Compute unit op a b → (r : Reading) → Matched r → Asks r n op a b
       line_asked n op a b m maker here is =
           let used = use_there n m maker here (act.Compute unit op a b) is (record { port = unit; asked = asked.Operate (record { op = op; a = a; b = b }); local = n }) refl in
           let shows = use_shown used.0 (record { port = unit; asked = asked.Operate (record { op = op; a = a; b = b }); local = n }) (design_node.Unit unit) used.1 refl (subst IsNumbered is (maker_numbered design cards k instr fits at n m maker)) in
-          unit_asked n op a b shows.0 shows.1 shows.2 shows.3 shows.4 shows.5
+          unit_asked n op a b shows.0 shows.1 shows.2 shows.3 shows.4 (same_there n m maker here (act.Compute unit op a b) is 0 a refl) (same_there n m maker here (act.Compute unit op a b) is 1 b refl) shows.5
 
       op_few : (n op : ℕ) (a b : Arg) (m : Micro) → slice_get (makers instr) n ≡ Some m → m.stage ≡ stage → m.act ≡ act.Compute unit op a b → op < length card.ops
       op_few n op a b m maker here is =

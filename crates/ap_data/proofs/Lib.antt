@@ -1,2 +1,4 @@
 pub mod Held
+pub mod Linked
+pub mod Operands
 pub mod Slotted

@@ -3,6 +3,7 @@ use Rattle.std.specs.Prelude.{◌≡◌, ℕ, ◌%◌, ◌^◌, ◌<◌, ◌==�
 use Rattle.std.specs.List.{AllByRecursion as Each}
 use Rattle.ap_bits.specs.declared.card.Card.{Card}
 use Rattle.ap_desc.specs.Clean.{FitsCards}
+use Rattle.ap_desc.specs.declared.design.Arg.{Arg}
 use Rattle.ap_desc.specs.declared.design.Arg.TheVariants as arg
 use Rattle.ap_desc.specs.declared.design.Design.{Design}
 use Rattle.ap_desc.specs.declared.design.File.{File}
@@ -21,7 +22,7 @@ use Rattle.ap_net.specs.Cells.{IsNet}
 use Rattle.ap_net.specs.Draft.{Draft}
 use Rattle.ap_net.specs.Modules.{ModuleText, module_named}
 use Rattle.ap_net.specs.Outside.{input_name, mem_name}
-use Rattle.ap_net.specs.Readings.{Always}
+use Rattle.ap_net.specs.Readings.{Always, Reading}
 use Rattle.ap_ports.specs.Numbers.{IsNumberedNode, number_of_node}
 use Rattle.ap_signals.specs.DesignOutside.{mem_shape}
 use Rattle.ap_signals.specs.NetRuns.{reg_name, slot_name}
@@ -38,9 +39,20 @@ use Rattle.ap_stage.specs.Courses.{IsCourse}
 use Rattle.ap_stage.specs.Served.{port_of}
 use Rattle.ap_stage.specs.Shown.{course_value}
 use Rattle.ap_course.specs.Instrs.{IsCourseOf, IsGroundOf}
+use Rattle.ap_course.specs.Links.{links}
 use Rattle.ap_border.specs.Files.{HasFiles}
 use Rattle.ap_border.specs.Named.{IsNamed, IsRegisterNamed}
 use Rattle.ap_border.specs.StageData.{HasInstr}
+
+-- where a line of the stage names the address after the word and its slots, the net is that address
+abbrev pub IsLinkNet : Design → ℕ → Draft → Wire → Wire → Type 0
+IsLinkNet design stage d place link = links design stage ≡ true → Always d (λ r. r.read link.number ≡ link_of design (r.read place.number))
+
+-- The value of an operand of an instruction: by its net, but for the address after the word and its slots, which has a net only in stages
+-- where a line names it.
+abbrev pub data_value : Design → Reading → Ground → Course → Arg → ℕ
+data_value design r ground c arg.Link = link_of design (r.read ground.place.number)
+data_value design r ground c a = course_value r ground c a
 
 -- a unit of one cycle: the netlist's module of its name computes by the card of the design's unit, at its width
 pub record IsQuickOf (design : Design) (cards : List Card) (modules units : List ModuleText) (unit : ℕ) (q : QuickUnit) : Type 0 where
@@ -91,7 +103,7 @@ pub record HasSlot (d : Draft) (ground : Ground) (c : Course) (name : List ℕ) 
 pub record IsStageOf (design : Design) (cards : List Card) (d : Draft) (modules : List ModuleText) (files : HasFiles design d modules) (units : List ModuleText) (home : ℕ → Instr → ℕ → ℕ) (stage : ℕ) (base : Ground) (courses : List Course) (nodes : List Node) : Type 0 where
   pub nets : IsGroundOf design base
   pub word : IsNet d.nets base.word
-  pub link : Always d (λ r. r.read base.link.number ≡ link_of design (r.read base.place.number))
+  pub link : IsLinkNet design stage d base.place base.link
   pub regs : (reg : ℕ) (of : Reg) (w : Wire) → slice_get design.regs reg ≡ Some of → slice_get base.regs reg ≡ Some w → (from : Wire) × IsRegisterNamed d (reg_name of) of.reset w from
   pub inputs : (input : ℕ) (of : Input) (w : Wire) → slice_get design.inputs input ≡ Some of → slice_get base.inputs input ≡ Some w → IsNamed d (input_name (record { name = of.name; width = of.width })) w
   pub long : length courses ≡ length design.instrs
@@ -106,8 +118,8 @@ pub record IsStageOf (design : Design) (cards : List Card) (d : Draft) (modules 
   pub served : Each (IsServedNode d base units courses) nodes
   pub ports : (place : ℕ) (x : DesignNode) (n : Node) → slice_get nodes place ≡ Some n → number_of_node x ≡ port_of n → IsNumberedNode x → IsPortOf design cards d modules files units x n
 
--- Such a stage has the data of each instruction of the design, and the values are those of the instruction's nets.
+-- Such a stage has the data of each instruction of the design, by these values of its operands.
 abbrev pub StagesHaveData : Type 0
 StagesHaveData = (design : Design) (cards : List Card) (d : Draft) (modules : List ModuleText) (files : HasFiles design d modules) (units : List ModuleText) (home : ℕ → Instr → ℕ → ℕ) (stage : ℕ) (base : Ground) (courses : List Course) (nodes : List Node)
     → FitsCards design cards → IsStageOf design cards d modules files units home stage base courses nodes → (k : ℕ) (instr : Instr) (c : Course) → slice_get design.instrs k ≡ Some instr → slice_get courses k ≡ Some c
-    → (h : HasInstr design cards d modules files home stage base.word base.place instr) × (h.value ≡ (λ r a. course_value r base c a))
+    → (h : HasInstr design cards d modules files home stage base.word base.place instr) × (h.value ≡ (λ r a. data_value design r base c a))

@@ -22,10 +22,9 @@ use Rattle.ap_stage.specs.declared.chain.Node.TheVariants as node
 use Rattle.ap_stage.specs.declared.node.Course.{Course}
 use Rattle.ap_stage.specs.declared.serve.SlowUnit.{SlowUnit}
 use Rattle.ap_stage.specs.declared.source.Ground.{Ground}
-use Rattle.ap_stage.specs.Shown.{course_value}
 use Rattle.ap_border.specs.Files.{HasFiles}
 use Rattle.ap_border.specs.StageData.{WhereMatched}
-use Rattle.ap_data.specs.Stage.{IsStageOf}
+use Rattle.ap_data.specs.Stage.{IsStageOf, data_value}
 
 -- the wires of the stage's port are joined to this instance: what it is asked, and its result
 pub record JoinsUnit (d : Draft) (modules : List ModuleText) (k : ℕ) (x : SlowUnit) : Type 0 where
@@ -52,4 +51,4 @@ UnitsAreAsked = (design : Design) (cards : List Card) (d : Draft) (modules : Lis
     → FitsCards design cards → IsStageOf design cards d modules files units home stage base courses nodes → (k : ℕ) (instr : Instr) (c : Course) → slice_get design.instrs k ≡ Some instr → slice_get courses k ≡ Some c
     → (unit part : ℕ) (resource : Resource) (card : Card) → slice_get design.units unit ≡ Some resource → slice_get cards resource.kind ≡ Some card
     → ((place : ℕ) (x : SlowUnit) → slice_get nodes place ≡ Some (node.Slow x) → x.port ≡ unit → JoinsUnit d modules part x) → (seen : ℕ) → instr_of design seen ≡ Some instr → asks design stage seen unit ≡ true
-    → AsksInstance d modules base.word instr (λ r a. course_value r base c a) stage unit part card
+    → AsksInstance d modules base.word instr (λ r a. data_value design r base c a) stage unit part card

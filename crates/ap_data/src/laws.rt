@@ -1,4 +1,5 @@
 //! Laws of the definitions. They do nothing: their contracts are what they say.
+ghost use Rattle.ap_data.specs.Operands.{OperandsAreNets};
 ghost use Rattle.ap_data.specs.Slots.{SlotsStand};
 ghost use Rattle.ap_data.specs.Stage.{StagesHaveData};
 ghost use Rattle.ap_data.specs.Units.{UnitsAreAsked};
@@ -24,6 +25,12 @@ pub fn units_are_asked()
     clean_is_encoded();
     stages_are_shown();
 }
+
+/// The net of an operand that a line of the stage names has always the operand's value, also where this is the address after the word and its
+/// slots.
+pub fn operands_are_nets()
+    ensures { OperandsAreNets }
+{}
 
 /// A local that had the net of its slot at the start of the stage is the low bits of the slot's register once the ports are served.
 pub fn slots_stand()

@@ -42,7 +42,7 @@ found {X} p (y ∷ xs) k x at e = go (p y) refl k at (λ i f. found p xs i x f e
     go false is (suc i) f later = let z = later i f in (z.0, suc z.1, z.2, z.3, z.4)
 
 module _ (design : Design) (clean : IsClean design) (apart : AreApart design.word design.instrs) (lies : (instr : Instr) → Contains design.instrs instr → LiesInWord design.word instr) where
-  number_is : (k : ℕ) (instr : Instr) → slice_get design.instrs k ≡ Some instr → number_of design instr ≡ k
+  pub number_is : (k : ℕ) (instr : Instr) → slice_get design.instrs k ≡ Some instr → number_of design instr ≡ k
   number_is k instr at =
       let h = lies instr (contained design.instrs k instr at) in
       match_is design.word instr.fixed_value (value_below design.word instr h) design.instrs apart k instr at ((Decides-eqb (bit_and instr.fixed_value instr.fixed_mask) instr.fixed_value).1 h.value)

@@ -1,0 +1,4 @@
+pub mod Effects
+pub mod Instrs
+pub mod Served
+pub mod Slots
