@@ -4,10 +4,7 @@ use Rattle.std.specs.List.{AllByRecursion as Each}
 use Rattle.ap_bits.specs.declared.card.Card.{Card}
 use Rattle.ap_desc.specs.Clean.{FitsCards}
 use Rattle.ap_desc.specs.declared.design.Design.{Design}
-use Rattle.ap_desc.specs.declared.design.Instr.{Instr}
 use Rattle.ap_desc.specs.declared.design.Unit.{Unit as Resource}
-use Rattle.ap_model.specs.Fire.{instr_of}
-use Rattle.ap_model.specs.UnitUse.{asks}
 use Rattle.ap_net.specs.Draft.{Draft, Extends}
 use Rattle.ap_net.specs.Modules.{ModuleText}
 use Rattle.ap_signals.specs.NetSignals.{is_slow_unit_of}
@@ -16,18 +13,9 @@ use Rattle.ap_ctl.specs.declared.nets.ControlNets.{ControlNets}
 use Rattle.ap_ctl.specs.Given.{IsGiven, slow_units}
 use Rattle.ap_ctl.specs.Lists.{EachPair}
 use Rattle.ap_ctl.specs.Nets.{IsControl}
-use Rattle.ap_stage.specs.declared.chain.Node.{Node}
-use Rattle.ap_stage.specs.declared.chain.Node.TheVariants as node
-use Rattle.ap_stage.specs.declared.node.Course.{Course}
 use Rattle.ap_stage.specs.declared.serve.SlowUnit.{SlowUnit}
-use Rattle.ap_stage.specs.declared.source.Ground.{Ground}
-use Rattle.ap_stage.specs.Shown.{course_value}
 use Rattle.ap_border.specs.Control.{IsBusyOf}
-use Rattle.ap_border.specs.Files.{HasFiles}
 use Rattle.ap_border.specs.SlowUnits.{HasSlowUnit}
-use Rattle.ap_border.specs.StageData.{HasInstr}
-use Rattle.ap_border.specs.StageShown.{AsksUnit}
-use Rattle.ap_data.specs.Stage.{IsStageOf}
 use Rattle.ap_data.specs.Units.{JoinsUnit}
 use Rattle.ap_parts.specs.Known.{AreKnown, HasParts, Knows}
 use Rattle.ap_slow.specs.declared.place.SlowPlaced.{SlowPlaced}
@@ -91,11 +79,3 @@ pub record HasWires (s : SlowUnit) (x : SlowPlaced) : Type 0 where
 abbrev pub ServedUnitsAreJoined : Type 0
 ServedUnitsAreJoined = (knows : Knows) (cards : List Card) (design : Design) (d : Draft) (modules : List ModuleText) (nets : ControlNets) → HasParts knows cards design modules
     → (x : SlowPlaced) (h : IsServedUnit knows design d nets x) (s : SlowUnit) → HasWires s x → JoinsUnit d modules (h.stands).k s
-
--- An instruction asks a unit as the border wants it, where the port of the stage is joined to the unit's instance.
-abbrev pub StagesAskUnits : Type 0
-StagesAskUnits = (design : Design) (cards : List Card) (d : Draft) (modules : List ModuleText) (files : HasFiles design d modules) (given : ControlGiven) (nets : ControlNets) (units : List ModuleText) (home : ℕ → Instr → ℕ → ℕ) (stage : ℕ) (base : Ground) (courses : List Course) (nodes : List Node)
-    → FitsCards design cards → IsStageOf design cards d modules files units home stage base courses nodes → (k : ℕ) (instr : Instr) (c : Course) → slice_get design.instrs k ≡ Some instr → slice_get courses k ≡ Some c
-    → (h : HasInstr design cards d modules files home stage base.word base.place instr) → h.value ≡ (λ r a. course_value r base c a) → (unit : ℕ) (s : HasSlowUnit design d modules given nets stage unit) → slice_get cards (s.resource).kind ≡ Some s.card
-    → ((place : ℕ) (x : SlowUnit) → slice_get nodes place ≡ Some (node.Slow x) → x.port ≡ unit → JoinsUnit d modules s.k x) → (seen : ℕ) → instr_of design seen ≡ Some instr → asks design stage seen unit ≡ true
-    → AsksUnit design cards d modules files given nets home stage base.word base.place instr h unit s

@@ -1,7 +1,6 @@
 //! Laws of the definitions. They do nothing: their contracts are what they say.
-ghost use Rattle.ap_asked.specs.Served.{KnownHaveModules, PlacedAreServed, ServedUnitsAreJoined, ServedUnitsGiveBorder, ServedUnitsGiveBusy, ServedUnitsShowBusy, StagesAskUnits};
+ghost use Rattle.ap_asked.specs.Served.{KnownHaveModules, PlacedAreServed, ServedUnitsAreJoined, ServedUnitsGiveBorder, ServedUnitsGiveBusy, ServedUnitsShowBusy};
 
-use ap_data::laws::units_are_asked;
 use ap_slow::laws::asking_is_shown;
 
 /// The modules that a top knows are those that its units want, and units that were placed over them and driven are served in each later draft.
@@ -19,11 +18,4 @@ pub fn served_units_give_the_border()
     ensures joined { ServedUnitsAreJoined }
 {
     asking_is_shown();
-}
-
-/// The instructions of a stage ask such a unit what the border wants.
-pub fn stages_ask_units()
-    ensures { StagesAskUnits }
-{
-    units_are_asked();
 }
