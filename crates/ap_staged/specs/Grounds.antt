@@ -1,0 +1,27 @@
+-- The nets on which the lines of a stage stand, as a stage was begun over them.
+use Rattle.std.specs.Prelude.{ℕ, List, Option}
+use Rattle.ap_desc.specs.declared.design.Design.{Design}
+use Rattle.ap_net.specs.Draft.{Draft, Extends}
+use Rattle.ap_bank.specs.declared.regs.RegWrite.{RegWrite}
+use Rattle.ap_bank.specs.Regs.{IsReg, TakeWrites}
+use Rattle.ap_ctl.specs.Lists.{EachPair}
+use Rattle.ap_front.specs.Ports.{IsInput}
+use Rattle.ap_pipe.specs.declared.table.StageSlots.{StageSlots}
+use Rattle.ap_stage.specs.declared.node.Course.{Course}
+use Rattle.ap_stage.specs.declared.source.Ground.{Ground}
+use Rattle.ap_stages.specs.declared.begin.SharedNets.{SharedNets}
+use Rattle.ap_stages.specs.declared.begin.StageNets.{StageNets}
+use Rattle.ap_stages.specs.Begun.{IsBegun}
+use Rattle.ap_values.specs.Served.{IsNamedGround}
+
+-- the nets that all stages read have the names of the design's registers and input ports, and each register takes something
+pub record AreSharedNamed (design : Design) (d : Draft) (shared : SharedNets) : Type 0 where
+  pub regs : EachPair (IsReg d) design.regs shared.regs
+  pub writes : List (Option RegWrite)
+  pub takes : TakeWrites d shared.regs writes
+  pub inputs : EachPair (IsInput d) design.inputs shared.inputs
+
+-- Where a stage was begun over them, the nets of its lines are what they are named for, in each draft that goes on.
+abbrev pub GroundsAreNamed : Type 0
+GroundsAreNamed = (design : Design) (d : Draft) (stage : ℕ) (table : StageSlots) (shared : SharedNets) (own : StageNets) (old new : Draft) (ground : Ground) (courses : List Course)
+    → IsBegun design stage table shared own old new ground courses → Extends new d → AreSharedNamed design d shared → IsNamedGround design d stage ground

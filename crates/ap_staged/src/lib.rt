@@ -1,0 +1,4 @@
+//! The stages of a processor as they were made, as stages of its design.
+#![tactic(auto)]
+
+pub mod laws;
