@@ -1,6 +1,6 @@
 -- What follows from the first part of a top.
 use Rattle.std.proofs.Common.{◌≡◌, ◌⊎◌, ⊎_elim, inl, inr, ℕ, zero, suc, ◌+◌, ◌<◌, ◌≤◌, List, [], ◌∷◌, ◌++◌, length, Option, Some, None, refl, sym, ap, subst, ◌∙◌, arith, append-nil}
-use Rattle.std.specs.Prelude.{slice_get}
+use Rattle.std.specs.Prelude.{flat_map, option_to_list, slice_get}
 use Rattle.std.specs.List.{AllByRecursion as Each, range_with_len}
 use Rattle.std.specs.Option.{option_map}
 use Rattle.std.proofs.lemmas.Bool.{cases_lt}
@@ -17,7 +17,7 @@ use Rattle.ap_net.specs.Modules.{ModuleText, module_named, ports_among}
 use Rattle.ap_net.specs.Pending.{Among}
 use Rattle.ap_net.specs.Ready.{numbers}
 use Rattle.ap_net.proofs.Drafts.{Extends-trans}
-use Rattle.ap_net.proofs.Lists.{All-from, All-map, All-unmap, some_same}
+use Rattle.ap_net.proofs.Lists.{All-back, All-from, All-map, All-unmap, some_same}
 use Rattle.ap_net.proofs.Parts.{All-named}
 use Rattle.ap_ctl.proofs.Beside.{EachFrom-at, EachFrom-weaker}
 use Rattle.ap_flight.specs.declared.plan.Planned.{Planned}
@@ -29,7 +29,7 @@ use Rattle.ap_bank.specs.declared.regs.RegWrite.{RegWrite}
 use Rattle.ap_bank.specs.Banked.{BanksNew}
 use Rattle.ap_bank.specs.Border.{IsShownWrite}
 use Rattle.ap_bank.specs.FileBorder.{IsNamedPort}
-use Rattle.ap_bank.specs.Regs.{IsReg, reg_wires, regs_numbers}
+use Rattle.ap_bank.specs.Regs.{IsReg, reg_wires, regs_numbers, with_regs}
 use Rattle.ap_bank.proofs.BorderGiven.{IsNamed-later, IsReg-later}
 use Rattle.ap_bank.proofs.Declared.{ports_regs, regs_count}
 use Rattle.ap_bank.proofs.Driven.{takes_later}
@@ -40,12 +40,13 @@ use Rattle.ap_front.specs.Opened.{front_plan}
 use Rattle.ap_front.proofs.Opened.{registers_extend}
 use Rattle.ap_front.proofs.Porting.{pairs_weaker}
 use Rattle.ap_lead.specs.Declaring.{opened}
-use Rattle.ap_lead.specs.Leading.{LeadGivesFiles, LeadGivesRegs, LeadsFollow, output_numbers, group_numbers}
+use Rattle.ap_lead.specs.Leading.{LeadGivesFiles, LeadGivesRegs, LeadsFollow, group_numbers, mem_write, output_numbers}
 use Rattle.ap_lead.specs.Storing.{IsStored}
 use Rattle.ap_lead.specs.Writes.{file_writes, is_of, outputs_of, reg_write, reg_write_of, reg_writes}
 use Rattle.ap_lead.proofs.Declaring.{regs_extend}
+use Rattle.ap_lead.proofs.PortsListed.{each_self, ports_listed}
 use Rattle.ap_lead.proofs.ShownWrites.{file_writes_are_shown, reg_writes_are_shown}
-use Rattle.ap_lead.proofs.Stored.{among_left, among_right}
+use Rattle.ap_lead.proofs.Stored.{among_left}
 
 -- Registers.
 
@@ -164,10 +165,6 @@ among_regs : (n : ℕ) (regs : List Reg) (k : ℕ) → n ≤ k → k < n + lengt
 among_regs n [] k low high = absurd (omega (arith, low, high))
 among_regs n (r ∷ regs) k low high = ⊎_elim (λ e. inl e) (λ more. inr (among_regs (n + 1) regs k more (omega (arith, high)))) (here_or_more n k low)
 
-each_self : (xs : List ℕ) → Each (Among xs) xs
-each_self [] = tt
-each_self (x ∷ xs) = (inl refl, All-from (Among xs) (Among (x ∷ xs)) (λ n k. inr k) xs (each_self xs))
-
 abbrev WriteAmong : List ℕ → Option RegWrite → Type 0
 WriteAmong known None = Unit {0}
 WriteAmong known (Some w) = Among known w.enable.number × Among known w.value.number
@@ -181,12 +178,9 @@ read_among known (r ∷ registers) (Some w ∷ writes) h g = (g.0.0, (g.0.1, (h.
 abbrev PortAmong : List ℕ → GroupPorts → Type 0
 PortAmong known g = Among known g.enable.number × Among known g.value.number
 
-ports_among_outputs : (groups : List GroupPorts) → Each (PortAmong (output_numbers groups)) groups
-ports_among_outputs [] = tt
-ports_among_outputs (g ∷ groups) = (
-  (inl refl, inr (inl refl)),
-  All-from (PortAmong (output_numbers groups)) (PortAmong (output_numbers (g ∷ groups))) (λ x k. (among_right (group_numbers g) (output_numbers groups) x.enable.number k.0, among_right (group_numbers g) (output_numbers groups) x.value.number k.1)) groups (ports_among_outputs groups),
-)
+ports_among_outputs : (known : List ℕ) (groups : List GroupPorts) → Each (Among known) (flat_map group_numbers groups) → Each (PortAmong known) groups
+ports_among_outputs known [] h = tt
+ports_among_outputs known (g ∷ groups) h = ((h.0, h.1.0), ports_among_outputs known groups (All-back (Among known) (numbers (option_to_list g.index)) (flat_map group_numbers groups) h.1.1))
 
 write_among : (known : List ℕ) (groups : List GroupPorts) → Each (PortAmong known) groups → (p : WritePort) → WriteAmong known (option_map reg_write_of (outputs_of p groups))
 write_among known groups h p = go (outputs_of p groups) refl
@@ -202,15 +196,17 @@ leads_follow by design stages made new h needs =
     let b : Draft = opened design stages in
     let groups = made.declared.ports.groups in
     let regs = made.declared.regs in
-    let known = numbers regs ++ output_numbers groups in
-    let outs = All-from (PortAmong (output_numbers groups)) (PortAmong known) (λ g k. (among_right (numbers regs) (output_numbers groups) g.enable.number k.0, among_right (numbers regs) (output_numbers groups) g.value.number k.1)) groups (ports_among_outputs groups) in
+    let known = numbers regs ++ output_numbers made.declared.ports in
+    let outputs : Each (Among known) (output_numbers made.declared.ports) = All-back (Among known) (numbers regs) (output_numbers made.declared.ports) (each_self known) in
+    let outs = ports_among_outputs known groups (All-back (Among known) (flat_map mem_write made.declared.ports.mems) (flat_map group_numbers groups) outputs) in
     record {
+      ports = ports_listed design h.first made.declared.ports h.kept (subst (Extends a) (sym h.declares.is) (Extends-trans a b (with_regs b design.regs) (registers_extend a plan) (regs_extend b design.regs))) h.declares.ports;
       front_came = λ n low high. subst (λ ws. Among (numbers ws) n) (sym h.declares.front_are) (among_planned (length a.nets) plan n low (let count = registers_count a plan in omega (arith, high, count)));
       regs_came = λ n low high. subst (λ ws. Among (numbers ws) n) (sym h.declares.regs_are) (among_regs (length b.nets) design.regs n low
           (let long : length h.first.nets ≡ length b.nets + length design.regs = ap (λ (x : Draft). length x.nets) h.declares.is ∙ regs_count b design.regs in omega (arith, high, long)));
       registered = (
         regs_numbers regs (reg_writes groups (length design.regs)),
-        read_among known regs (reg_writes groups (length design.regs)) (All-unmap (Among known) (λ (w : Wire). w.number) regs (All-from (Among (numbers regs)) (Among known) (λ n k. among_left (numbers regs) (output_numbers groups) n k) (numbers regs) (each_self (numbers regs))))
+        read_among known regs (reg_writes groups (length design.regs)) (All-unmap (Among known) (λ (w : Wire). w.number) regs (All-from (Among (numbers regs)) (Among known) (λ n k. among_left (numbers regs) (output_numbers made.declared.ports) n k) (numbers regs) (each_self (numbers regs))))
             (All-map (WriteAmong known) (reg_write groups) (range_with_len 0 (length design.regs)) (each_all (λ reg. WriteAmong known (reg_write groups reg)) (λ reg. write_among known groups outs (port.Register reg)) (range_with_len 0 (length design.regs)))),
         h.drives.came by,
       );

@@ -1,5 +1,5 @@
 -- What the first part of a top gives: to the border, and to the order in which nets are ready.
-use Rattle.std.specs.Prelude.{◌≡◌, ◌⊎◌, ℕ, ◌<◌, ◌≤◌, List, [], ◌∷◌, ◌++◌, flat_map, length, option_to_list, slice_get, Some}
+use Rattle.std.specs.Prelude.{◌≡◌, ◌⊎◌, ℕ, ◌<◌, ◌≤◌, List, [], ◌∷◌, ◌++◌, flat_map, length, map, option_to_list, slice_get, Some}
 use Rattle.ap_bits.specs.declared.card.Card.{Card}
 use Rattle.ap_desc.specs.Clean.{IsClean}
 use Rattle.ap_desc.specs.declared.design.Design.{Design}
@@ -14,11 +14,13 @@ use Rattle.ap_bank.specs.declared.bank.FileNets.{FileNets}
 use Rattle.ap_bank.specs.Border.{BanksRegs}
 use Rattle.ap_bank.specs.FileBorder.{IsBanked}
 use Rattle.ap_front.specs.declared.ports.GroupPorts.{GroupPorts}
+use Rattle.ap_front.specs.declared.ports.MemPorts.{MemPorts}
+use Rattle.ap_front.specs.declared.ports.Ports.{Ports}
 use Rattle.ap_front.specs.NewNames.{ported}
 use Rattle.ap_front.specs.Opened.{front_wires}
 use Rattle.ap_parts.specs.Known.{HasParts, Knows}
 use Rattle.ap_steps.specs.Steps.{AtEachStep, Grows, Step}
-use Rattle.ap_steps.specs.TopOrder.{StepFollows, step}
+use Rattle.ap_steps.specs.TopOrder.{MemNumbers, StepFollows, mem_numbers, step}
 use Rattle.ap_lead.specs.declared.store.Lead.{Lead}
 use Rattle.ap_lead.specs.Declaring.{opened}
 use Rattle.ap_lead.specs.Storing.{FilesNeed, Leads, index_numbers}
@@ -41,12 +43,26 @@ LeadGivesFiles = (design : Design) (stages : List StageSlots) (made : Lead) (a d
     → HasParts knows cards design modules → Leads design stages made a → Extends a d
     → (file : ℕ) (f : File) → slice_get design.files file ≡ Some f → HasBanked design d modules made file f
 
--- the nets at which writes are shown
+-- The numbers of the ports: the inputs but the word that is fetched; where a memory is read, and what is read; the outputs at which the writes
+-- of memories, registers and files are shown.
+abbrev pub given_numbers : Ports → List ℕ
+given_numbers p = p.mwait.number ∷ numbers p.inputs
+
+abbrev pub mem_read : MemPorts → MemNumbers
+mem_read m = record { at = m.read_address.number; value = m.read.number }
+
+abbrev pub mem_write : MemPorts → List ℕ
+mem_write m = m.enable.number ∷ m.address.number ∷ m.value.number ∷ []
+
 abbrev pub group_numbers : GroupPorts → List ℕ
 group_numbers g = g.enable.number ∷ g.value.number ∷ numbers (option_to_list g.index)
 
-abbrev pub output_numbers : List GroupPorts → List ℕ
-output_numbers groups = flat_map group_numbers groups
+abbrev pub output_numbers : Ports → List ℕ
+output_numbers p = flat_map mem_write p.mems ++ flat_map group_numbers p.groups
+
+-- those of all ports
+abbrev pub all_numbers : Ports → List ℕ
+all_numbers p = p.iaddr.number ∷ p.idata.number ∷ p.stall.number ∷ p.kill.number ∷ given_numbers p ++ (flat_map mem_numbers (map mem_read p.mems) ++ output_numbers p)
 
 -- The first steps of a top: the drafts, with the files' instances.
 abbrev pub steps_to : Draft → Draft → Draft → Draft → List Instance → List Step
@@ -54,9 +70,10 @@ steps_to opened declared registered filed files = step opened [] ∷ step declar
 
 -- What came in each step, and that each grows from the one before.
 pub record LeadFollows (by : Dependence) (design : Design) (stages : List StageSlots) (made : Lead) (new : Draft) (h : Leads design stages made new) : Type 0 where
+  pub ports : (k : ℕ) → k < length (ported design).nets → Among (all_numbers made.declared.ports) k
   pub front_came : CameAmong (numbers (front_wires made.declared.front)) (ported design) (opened design stages)
   pub regs_came : CameAmong (numbers made.declared.regs) (opened design stages) h.first
-  pub registered : StepFollows by (numbers made.declared.regs ++ output_numbers made.declared.ports.groups) h.first h.driven
+  pub registered : StepFollows by (numbers made.declared.regs ++ output_numbers made.declared.ports) h.first h.driven
   pub filed : (k : ℕ) → length h.driven.nets ≤ k → k < length new.nets → Among (index_numbers made.files) k ⊎ ReadyAfter by new (index_numbers made.files) k
   pub files : List Instance
   pub grows : AtEachStep Grows (ported design) (steps_to (opened design stages) h.first h.driven new files)
