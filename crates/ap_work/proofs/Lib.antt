@@ -1,0 +1,4 @@
+pub mod Standing
+pub mod Grown
+pub mod Waiting
+pub mod Ordered
