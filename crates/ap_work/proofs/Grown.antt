@@ -1,5 +1,5 @@
 -- How the draft grew, and that the instances fit.
-use Rattle.std.proofs.Common.{◌≡◌, ℕ, zero, suc, ◌+◌, ◌-◌, ◌<◌, ◌≤◌, List, [], ◌∷◌, ◌++◌, length, map, refl, sym, ap, subst, ◌∙◌, arith, append-nil}
+use Rattle.std.proofs.Common.{◌≡◌, ◌≢◌, ℕ, zero, suc, ◌+◌, ◌-◌, ◌<◌, ◌≤◌, List, [], ◌∷◌, ◌++◌, length, map, refl, sym, ap, subst, ◌∙◌, arith, append-nil}
 use Rattle.std.specs.Prelude.{slice_get, Some}
 use Rattle.std.specs.List.{AllByRecursion as Each}
 use Rattle.ap_bits.specs.declared.card.Card.{Card}
@@ -14,14 +14,17 @@ use Rattle.ap_net.specs.declared.net.Role.{Role}
 use Rattle.ap_net.specs.declared.net.Role.TheVariants as role
 use Rattle.ap_net.specs.Draft.{Draft, Extends, IsKept}
 use Rattle.ap_net.specs.Modules.{IsInstanceIn, ModuleText, module_named}
-use Rattle.ap_net.specs.Wiring.{IsSource, reset_of}
+use Rattle.ap_net.specs.Wiring.{IsSource, Unclocked, reset_of}
 use Rattle.ap_net.proofs.Laws.{Extends-refl, Extends-trans, stays}
-use Rattle.ap_net.proofs.Lists.{All-from, some_same}
+use Rattle.ap_net.proofs.Lists.{All-from, All-join, All-unmap, some_same}
 use Rattle.ap_net.proofs.Parts.{net_of_width}
+use Rattle.ap_net.proofs.Wired.{number-IsNet}
 use Rattle.ap_ctl.specs.declared.nets.ControlGiven.{ControlGiven}
 use Rattle.ap_ctl.specs.declared.nets.ControlNets.{ControlNets}
 use Rattle.ap_ctl.specs.Nets.{AddsControl, IsFreeRegister, valid_wires, with_valid}
 use Rattle.ap_ctl.proofs.Whole.{valid_extends, valid_free}
+use Rattle.ap_flight.specs.Stages.{IsOpen}
+use Rattle.ap_flight.proofs.Driving.{open_later}
 use Rattle.ap_parts.specs.Known.{AreKnown, HasParts, IsFoundWith, Knows, StandsThere, known_ports, needs_by}
 use Rattle.ap_parts.proofs.KnownParts.{instances_fit, units_are_found, units_need}
 use Rattle.ap_parts.proofs.Lists.{pair_at}
@@ -64,6 +67,15 @@ valid_registers design given a b d nets low kept le h e =
     (All-from (λ (w : Wire). length a.nets ≤ w.number) (λ (w : Wire). low ≤ w.number) (λ w k. omega (arith, k, le)) (valid_wires (length a.nets) count) (wires_above (length a.nets) count))
     (valid_free a v count kept (Extends-refl v) refl))
 
+-- Registers that take nothing.
+
+open_still : (a b : Draft) (valid : List Wire) (more : List Next) → Extends a b → b.nexts ≡ a.nexts ++ more → map (λ (x : Next). x.register) more ≡ valid → Each (IsLaterRegister (length a.nets) b) valid → (w : Wire) → IsOpen a w → IsOpen b w
+open_still a b valid more e nexts registers later w h =
+    let low = number-IsNet a.nets w h.net in
+    let others : Each (λ (x : Wire). x.number ≢ w.number) valid = All-from (IsLaterRegister (length a.nets) b) (λ (x : Wire). x.number ≢ w.number) (λ x k same. let high = k.later in absurd (omega (arith, low, high, same))) valid later in
+    let own = All-unmap (λ (x : Wire). x.number ≢ w.number) (λ (x : Next). x.register) more (subst (Each (λ (x : Wire). x.number ≢ w.number)) (sym registers) others) in
+    open_later a b w e (subst (λ l. Unclocked l w.number) (sym nexts) (All-join (λ (x : Next). x.register.number ≢ w.number) a.nexts more h.free own)) h
+
 pub work_grows : WorkGrows
 work_grows design r p own places made old new h =
     let placed = h.placed.adds in
@@ -72,6 +84,8 @@ work_grows design r p own places made old new h =
     let to_stood : Extends old h.stood = Extends-trans old h.united h.stood placed.extends declared.extends in
     let (more, is, registers) = h.adds.nexts in
     let nexts = driven.nexts ∙ is ∙ ap (λ l. l ++ more) (declared.nexts ∙ placed.nexts) in
+    let extends : Extends old new = Extends-trans old h.stood new to_stood (Extends-trans h.stood h.controlled new h.adds.extends driven.extends) in
+    let later = valid_registers design made.given h.stood h.controlled new made.nets (length old.nets) h.kept (extends_long old h.stood to_stood) h.adds driven.extends in
     record {
       steps = (
         record { extends = placed.extends; instances = h.placed.instances; ports = placed.ports },
@@ -83,11 +97,12 @@ work_grows design r p own places made old new h =
           ),
         ),
       );
-      extends = Extends-trans old h.stood new to_stood (Extends-trans h.stood h.controlled new h.adds.extends driven.extends);
+      extends = extends;
       ports = driven.ports ∙ h.adds.ports ∙ declared.ports ∙ placed.ports;
       nexts = (more, nexts, registers);
-      registers = valid_registers design made.given h.stood h.controlled new made.nets (length old.nets) h.kept (extends_long old h.stood to_stood) h.adds driven.extends;
+      registers = later;
       clocked = registers_are_clocked.came old new made.nets.valid more nexts registers;
+      untaken = λ ws open_before. record { each = All-from (IsOpen old) (IsOpen new) (open_still old new made.nets.valid more extends nexts registers later) ws open_before.each; apart = open_before.apart };
       fresh = driven.fresh;
       names = λ name other unit valid is_new.
           driven.names name other (h.adds.names name other valid (declared.names name other tt (placed.names name other (names_other design own places _ made.units old h.united name h.placed unit) is_new)));

@@ -18,6 +18,7 @@ use Rattle.ap_signals.specs.NetRuns.{unit_part}
 use Rattle.ap_ctl.specs.Nets.{IsNoValid}
 use Rattle.ap_front.specs.declared.ports.Ports.{Ports}
 use Rattle.ap_front.specs.declared.registers.Registers.{Registers}
+use Rattle.ap_front.specs.Opened.{AreOpen}
 use Rattle.ap_parts.specs.Known.{AreKnown, HasParts, Knows}
 use Rattle.ap_slow.specs.declared.place.SlowPlaced.{SlowPlaced}
 use Rattle.ap_slow.specs.Driven.{unit_stage}
@@ -38,7 +39,7 @@ pub record IsLaterRegister (count : ℕ) (d : Draft) (w : Wire) : Type 0 where
   pub source : IsSource net.role
   pub later : count ≤ w.number
 
--- All that was there stays, and the valid bits came and take something. A name that neither a unit nor a valid bit has is as new as it was.
+-- All that was there stays. The valid bits came and take something; registers that took nothing take nothing still. A name that neither a unit nor a valid bit has is as new as it was.
 pub record GrowsOn (design : Design) (r : Registers) (p : Ports) (own : List ModuleText) (places : List ℕ) (made : Work) (old new : Draft) (h : Works design r p own places made old new) : Type 0 where
   pub steps : AtEachStep Grows old (steps_to h.united h.stood h.controlled new h.placed.parts)
   pub extends : Extends old new
@@ -46,6 +47,7 @@ pub record GrowsOn (design : Design) (r : Registers) (p : Ports) (own : List Mod
   pub nexts : (more : List Next) × (new.nexts ≡ old.nexts ++ more) × (map (λ (x : Next). x.register) more ≡ made.nets.valid)
   pub registers : Each (IsLaterRegister (length old.nets) new) made.nets.valid
   pub clocked : Each (IsClocked new) made.nets.valid
+  pub untaken : (ws : List Wire) → AreOpen old ws → AreOpen new ws
   pub fresh : CanFresh new
   pub names : (name : List ℕ) → IsNotNumbered name → ((u : Resource) → unit_part u ≢ name) → IsNoValid design name → IsNew name (names_of old) → IsNew name (names_of new)
 

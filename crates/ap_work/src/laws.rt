@@ -1,7 +1,10 @@
 //! Laws of the definitions. They do nothing: their contracts are what they say.
 ghost use Rattle.ap_work.specs.Leaving.{WorkFitsParts, WorkGrows, WorkLeavesLate};
 ghost use Rattle.ap_work.specs.Ordering.{KnownUnitsNeed, WorkFollows};
+ghost use Rattle.ap_work.specs.Serving.{WorkServesBorder};
 ghost use Rattle.ap_work.specs.Working.{OpenFrontsStand, WorkIsControlled, WorkStands};
+
+use ap_asked::laws::served_units_give_the_border;
 
 /// Open registers and ports are what the second part needs of the first, however the draft grows.
 pub fn open_fronts_stand()
@@ -24,6 +27,13 @@ pub fn work_grows()
 pub fn work_leaves_late()
     ensures { WorkLeavesLate }
 {}
+
+/// Over any modules that have the design's parts the units are what the border asks, in each later draft, and so are their busy nets.
+pub fn work_serves_the_border()
+    ensures { WorkServesBorder }
+{
+    served_units_give_the_border();
+}
 
 /// What came in each step is among the nets that are known, or follows from them.
 pub fn work_follows()
