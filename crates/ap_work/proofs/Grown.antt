@@ -1,5 +1,5 @@
 -- How the draft grew, and that the instances fit.
-use Rattle.std.proofs.Common.{◌≡◌, ◌≢◌, ℕ, zero, suc, ◌+◌, ◌-◌, ◌<◌, ◌≤◌, List, [], ◌∷◌, ◌++◌, length, map, refl, sym, ap, subst, ◌∙◌, arith, append-nil}
+use Rattle.std.proofs.Common.{◌≡◌, ◌≢◌, ℕ, zero, suc, ◌+◌, ◌-◌, ◌≤◌, List, [], ◌∷◌, ◌++◌, length, map, refl, sym, ap, subst, ◌∙◌, arith, append-nil}
 use Rattle.std.specs.Prelude.{slice_get, Some}
 use Rattle.std.specs.List.{AllByRecursion as Each}
 use Rattle.ap_bits.specs.declared.card.Card.{Card}
@@ -8,7 +8,6 @@ use Rattle.ap_desc.specs.declared.design.Design.{Design}
 use Rattle.ap_desc.specs.declared.design.Unit.{Unit as Resource}
 use Rattle.ap_net.specs.declared.cell.Wire.{Wire}
 use Rattle.ap_net.specs.declared.net.Instance.{Instance}
-use Rattle.ap_net.specs.declared.net.ModuleNet.{ModuleNet}
 use Rattle.ap_net.specs.declared.net.Next.{Next}
 use Rattle.ap_net.specs.declared.net.Role.{Role}
 use Rattle.ap_net.specs.declared.net.Role.TheVariants as role
@@ -22,7 +21,7 @@ use Rattle.ap_net.proofs.Wired.{number-IsNet}
 use Rattle.ap_ctl.specs.declared.nets.ControlGiven.{ControlGiven}
 use Rattle.ap_ctl.specs.declared.nets.ControlNets.{ControlNets}
 use Rattle.ap_ctl.specs.Nets.{AddsControl, IsFreeRegister, valid_wires, with_valid}
-use Rattle.ap_ctl.proofs.Whole.{valid_extends, valid_free}
+use Rattle.ap_ctl.proofs.Whole.{valid_free}
 use Rattle.ap_flight.specs.Stages.{IsOpen}
 use Rattle.ap_flight.proofs.Driving.{open_later}
 use Rattle.ap_parts.specs.Known.{AreKnown, HasParts, IsFoundWith, Knows, StandsThere, known_ports, needs_by}

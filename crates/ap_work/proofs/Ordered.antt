@@ -1,15 +1,14 @@
 -- What came follows from what it should.
-use Rattle.std.proofs.Common.{◌≡◌, ℕ, zero, suc, ◌<◌, ◌≤◌, List, [], ◌∷◌, ◌++◌, flat_map, length, map, Some, refl, sym, ap, subst, ◌∙◌, inl, inr}
-use Rattle.std.specs.Prelude.{◌⊎◌, slice_get}
+use Rattle.std.proofs.Common.{◌≡◌, ℕ, zero, suc, List, [], ◌∷◌, ◌++◌, flat_map, map, Some, refl, sym, ap, subst, ◌∙◌, inl, inr}
+use Rattle.std.specs.Prelude.{slice_get}
 use Rattle.std.specs.List.{AllByRecursion as Each}
 use Rattle.ap_desc.specs.declared.design.Design.{Design}
 use Rattle.ap_net.specs.declared.cell.Wire.{Wire}
-use Rattle.ap_net.specs.Draft.{Draft, Extends}
+use Rattle.ap_net.specs.Draft.{Draft}
 use Rattle.ap_net.specs.Modules.{ModuleText}
 use Rattle.ap_net.specs.Pending.{Among, CameAmong}
 use Rattle.ap_net.specs.Ready.{Dependence, ReadyAfter, numbers}
 use Rattle.ap_net.proofs.Lists.{All-back, All-from, All-join, All-map, All-unmap}
-use Rattle.ap_ctl.specs.declared.nets.ControlGiven.{ControlGiven}
 use Rattle.ap_ctl.specs.declared.nets.ControlNets.{ControlNets}
 use Rattle.ap_ctl.specs.Given.{holding, killing}
 use Rattle.ap_ctl.specs.Lists.{EachPair}
@@ -28,7 +27,7 @@ use Rattle.ap_slow.specs.Placed.{IsPlaced, NeedAsSlow, port_nets}
 use Rattle.ap_slow.proofs.Lates.{among_back, among_front}
 use Rattle.ap_steps.specs.TopOrder.{Follows, IsServed, StepFollows, TopDrafts, TopNumbers, UnitFollows, UnitNumbers, busy_numbers, holding_numbers, killing_numbers, unit_numbers}
 use Rattle.ap_work.specs.declared.work.Work.{Work}
-use Rattle.ap_work.specs.Ordering.{DraftsWork, IsDrivenByStage, IsDrivenIn, NumbersWork, WorkFollows, numbers_of}
+use Rattle.ap_work.specs.Ordering.{IsDrivenByStage, IsDrivenIn, NumbersWork, WorkFollows, numbers_of}
 use Rattle.ap_work.specs.Working.{GivesControl, busy_net}
 
 -- Lists of numbers.
@@ -80,9 +79,9 @@ module _ (r : Registers) (p : Ports) (made : Work) (n : TopNumbers) (gives : Giv
   holding_known = (
     among_front n.given (n.front ++ busy_numbers n) made.given.mwait.number (subst (λ (w : Wire). Among n.given w.number) (sym gives.wait) m.wait),
     All-join (Among (holding_numbers n)) (numbers made.given.words) (numbers made.given.busy)
-    (All-from (Among n.front) (Among (holding_numbers n)) (λ k h. among_back n.given (n.front ++ busy_numbers n) k (among_front n.front (busy_numbers n) k h)) (numbers made.given.words) words_known)
-    (subst (Each (Among (holding_numbers n))) (sym busy_known)
-    (All-from (Among (busy_numbers n)) (Among (holding_numbers n)) (λ k h. among_back n.given (n.front ++ busy_numbers n) k (among_back n.front (busy_numbers n) k h)) (busy_numbers n) (among_all (busy_numbers n)))),
+        (All-from (Among n.front) (Among (holding_numbers n)) (λ k h. among_back n.given (n.front ++ busy_numbers n) k (among_front n.front (busy_numbers n) k h)) (numbers made.given.words) words_known)
+        (subst (Each (Among (holding_numbers n))) (sym busy_known)
+        (All-from (Among (busy_numbers n)) (Among (holding_numbers n)) (λ k h. among_back n.given (n.front ++ busy_numbers n) k (among_back n.front (busy_numbers n) k h)) (busy_numbers n) (among_all (busy_numbers n)))),
   )
 
   killing_known : Each (Among (killing_numbers n)) (killing made.given)
@@ -175,7 +174,7 @@ work_follows by design r p own places made old new h t n needs e m looks driven 
       units = subst (Each (UnitFollows by t n)) (sym m.units)
           (each_unit by t n (IsPlaced design own places h.united) (IsDrivenUnit design made.nets new) (IsDrivenByStage design n.driven)
           (λ x placed served waits.
-              unit_follows by design own places h.united new (asking made.nets) (numbers made.nets.hold) t n x needs e.united e.steered known m.hold placed (given_follows by design made.nets new n.driven x served waits))
+          unit_follows by design own places h.united new (asking made.nets) (numbers made.nets.hold) t n x needs e.united e.steered known m.hold placed (given_follows by design made.nets new n.driven x served waits))
           made.units h.placed.each h.drives.each driven);
       steered = step_as by (n.valid ++ n.decoded) (asking made.nets) t.controlled t.steered h.controlled new known e.controlled e.steered (asking made.nets, among_all (asking made.nets), h.drives.drives.came by);
     }

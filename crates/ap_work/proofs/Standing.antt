@@ -1,5 +1,5 @@
 -- Control and its nets stand.
-use Rattle.std.proofs.Common.{◌≡◌, ◌≢◌, ℕ, ◌-◌, ◌<◌, ◌==◌, false, List, [], ◌∷◌, length, map, refl, sym, ap, subst, ◌∙◌, arith}
+use Rattle.std.proofs.Common.{◌≡◌, ◌≢◌, ℕ, ◌-◌, ◌==◌, false, List, [], ◌∷◌, length, map, refl, sym, ap, subst, ◌∙◌, arith}
 use Rattle.std.specs.List.{AllByRecursion as Each}
 use Rattle.std.specs.Option.{option_map_or}
 use Rattle.std.specs.Prelude.{Option}
@@ -41,7 +41,7 @@ use Rattle.ap_front.proofs.PortNets.{ports_go_on}
 use Rattle.ap_front.proofs.Readied.{control_stands, front_gives_control, mapped_long}
 use Rattle.ap_slow.specs.declared.place.SlowPlaced.{SlowPlaced}
 use Rattle.ap_slow.specs.Driven.{AreConditions, AreThere, CanDrive}
-use Rattle.ap_slow.specs.Placed.{DeclaresLate, IsPlaced, PlacesUnits, late_nets, part_name}
+use Rattle.ap_slow.specs.Placed.{DeclaresLate, IsPlaced, PlacesUnits, part_name}
 use Rattle.ap_slow.proofs.DrivenAll.{there_later}
 use Rattle.ap_slow.proofs.Lates.{late_more, late_none}
 use Rattle.ap_work.specs.Working.{AreControlNets, HasFront, OpenFrontsStand, WorkIsControlled, WorkStands, busy_net}

@@ -1,5 +1,5 @@
 -- Wires that are still to be driven.
-use Rattle.std.proofs.Common.{◌≡◌, ◌≢◌, ℕ, zero, suc, ◌<◌, ◌≤◌, List, [], ◌∷◌, ◌++◌, flat_map, length, map, refl, sym, ap, subst, ◌∙◌, arith}
+use Rattle.std.proofs.Common.{◌≡◌, ◌≢◌, ℕ, zero, suc, ◌≤◌, List, [], ◌∷◌, ◌++◌, flat_map, length, refl, sym, ap, subst, arith}
 use Rattle.std.specs.List.{AllByRecursion as Each}
 use Rattle.ap_desc.specs.declared.design.Design.{Design}
 use Rattle.ap_net.specs.declared.cell.Wire.{Wire}
@@ -12,7 +12,6 @@ use Rattle.ap_net.proofs.Wired.{number-IsNet}
 use Rattle.ap_slow.specs.declared.place.SlowPlaced.{SlowPlaced}
 use Rattle.ap_slow.specs.Driven.{driven_in, driven_of, unit_stage}
 use Rattle.ap_slow.specs.Placed.{late_nets}
-use Rattle.ap_slow.proofs.Lates.{extends_long}
 use Rattle.ap_work.specs.Leaving.{WaitsForStage, WaitsIn, WorkLeavesLate}
 
 -- what is driven is some of the late wires
