@@ -41,9 +41,13 @@ busy_as [] = refl
 busy_as (x ∷ made) = ap (λ l. x.outputs.busy.number ∷ l) (busy_as made)
 
 -- the word of a stage is the first of its registers
-words_among : (known : List ℕ) (stages : List StageRegisters) → Each (Among known) (numbers (flat_map stage_wires stages)) → Each (Among known) (numbers (words_of stages))
+words_among : (known : List ℕ) (stages : List StageRegisters) → Each (Among known) (numbers (flat_map stage_wires stages))
+    → Each (Among known) (numbers (words_of stages))
 words_among known [] h = tt
-words_among known (s ∷ stages) h = (h.0, words_among known stages (All-map (Among known) (λ (w : Wire). w.number) (flat_map stage_wires stages) (All-back (λ (w : Wire). Among known w.number) s.slots (flat_map stage_wires stages) (All-unmap (Among known) (λ (w : Wire). w.number) (s.slots ++ flat_map stage_wires stages) h.1.1))))
+words_among known (s ∷ stages) h =
+    let after = All-unmap (Among known) (λ (w : Wire). w.number) (s.slots ++ flat_map stage_wires stages) h.1.1 in
+    let rest = All-back (λ (w : Wire). Among known w.number) s.slots (flat_map stage_wires stages) after in
+    (h.0, words_among known stages (All-map (Among known) (λ (w : Wire). w.number) (flat_map stage_wires stages) rest))
 
 get_among : (ws : List Wire) (i : ℕ) (w : Wire) → slice_get ws i ≡ Some w → Among (numbers ws) w.number
 get_among [] i w at = cc
@@ -92,7 +96,8 @@ module _ (r : Registers) (p : Ports) (made : Work) (n : TopNumbers) (gives : Giv
 
 -- The conditions of stages.
 
-decoded_follow : (by : Dependence) (d : Draft) (known : List ℕ) (words : List Wire) (decoded : List (List Wire)) → Each (Among known) (numbers words) → EachPair (FollowsWord d) words decoded → Each (Follows by d known) (flat_map numbers decoded)
+decoded_follow : (by : Dependence) (d : Draft) (known : List ℕ) (words : List Wire) (decoded : List (List Wire)) → Each (Among known) (numbers words)
+    → EachPair (FollowsWord d) words decoded → Each (Follows by d known) (flat_map numbers decoded)
 decoded_follow by d known [] [] k h = tt
 decoded_follow by d known [] (conditions ∷ decoded) k h = absurd h
 decoded_follow by d known (word ∷ words) [] k h = tt
@@ -102,7 +107,8 @@ decoded_follow by d known (word ∷ words) (conditions ∷ decoded) k h =
     (All-from (λ (w : Wire). ReadyAfter by d (word.number ∷ []) w.number) (λ (w : Wire). Follows by d known w.number) (λ w ready. (word.number ∷ [], (k.0, tt), ready)) conditions (h.0 by)))
     (decoded_follow by d known words decoded k.1 h.1)
 
-each_follow : (by : Dependence) (d : Draft) (known from : List ℕ) (ws : List Wire) → Each (Among known) from → Each (λ (w : Wire). ReadyAfter by d from w.number) ws → Each (Follows by d known) (numbers ws)
+each_follow : (by : Dependence) (d : Draft) (known from : List ℕ) (ws : List Wire) → Each (Among known) from
+    → Each (λ (w : Wire). ReadyAfter by d from w.number) ws → Each (Follows by d known) (numbers ws)
 each_follow by d known from ws k h =
     All-map (Follows by d known) (λ (w : Wire). w.number) ws (All-from (λ (w : Wire). ReadyAfter by d from w.number) (λ (w : Wire). Follows by d known w.number) (λ w ready. (from, k, ready)) ws h)
 
@@ -116,7 +122,8 @@ record GivenFollows (by : Dependence) (d : Draft) (driven asked hold : List ℕ)
   go : Follows by d asked x.inputs.go.number
   adv : Follows by d hold x.inputs.adv.number
 
-given_follows : (by : Dependence) (design : Design) (nets : ControlNets) (d : Draft) (driven : List ℕ) (x : SlowPlaced) → IsDrivenUnit design nets d x → IsDrivenByStage design driven x → GivenFollows by d driven (asking nets) (numbers nets.hold) x
+given_follows : (by : Dependence) (design : Design) (nets : ControlNets) (d : Draft) (driven : List ℕ) (x : SlowPlaced)
+    → IsDrivenUnit design nets d x → IsDrivenByStage design driven x → GivenFollows by d driven (asking nets) (numbers nets.hold) x
 given_follows by design nets d driven x h k = go (unit_stage design x.unit) h k
   where
     go : (s : ℕ) → IsServedIn design nets d s x → IsDrivenIn driven s x → GivenFollows by d driven (asking nets) (numbers nets.hold) x
@@ -136,7 +143,8 @@ given_follows by design nets d driven x h k = go (unit_stage design x.unit) h k
     }
 
 unit_follows : (by : Dependence) (design : Design) (own : List ModuleText) (places : List ℕ) (united steered : Draft) (asked hold : List ℕ) (t : TopDrafts) (n : TopNumbers) (x : SlowPlaced) → NeedAsSlow design own places by → t.united ≡ united → t.steered ≡ steered
-    → n.valid ++ n.decoded ≡ asked → n.hold ≡ hold → IsPlaced design own places united x → GivenFollows by steered n.driven asked hold x → UnitFollows by t n (numbers_of x)
+    → n.valid ++ n.decoded ≡ asked → n.hold ≡ hold → IsPlaced design own places united x → GivenFollows by steered n.driven asked hold x
+    → UnitFollows by t n (numbers_of x)
 unit_follows by design own places united steered asked hold t n x needs e f g k placed h =
     let slow : by.needs placed.whole.name ≡ slow_needs = needs x.unit placed.resource placed.whole placed.at placed.slow placed.there in
     record {
@@ -149,7 +157,8 @@ unit_follows by design own places united steered asked hold t n x needs e f g k 
       y = subst (λ (d : Draft). ReadyAfter by d (x.inputs.sel.number ∷ x.inputs.a.number ∷ x.inputs.b.number ∷ x.inputs.go.number ∷ []) x.outputs.y.number) (sym e) (placed.stands.y_ready by slow);
     }
 
-each_unit : (by : Dependence) (t : TopDrafts) (n : TopNumbers) (P Q R : SlowPlaced → Type 0) → ((x : SlowPlaced) → P x → Q x → R x → UnitFollows by t n (numbers_of x)) → (made : List SlowPlaced) → Each P made → Each Q made → Each R made
+each_unit : (by : Dependence) (t : TopDrafts) (n : TopNumbers) (P Q R : SlowPlaced → Type 0)
+    → ((x : SlowPlaced) → P x → Q x → R x → UnitFollows by t n (numbers_of x)) → (made : List SlowPlaced) → Each P made → Each Q made → Each R made
     → Each (UnitFollows by t n) (map numbers_of made)
 each_unit by t n P Q R f [] p q r = tt
 each_unit by t n P Q R f (x ∷ made) p q r = (f x p.0 q.0 r.0, each_unit by t n P Q R f made p.1 q.1 r.1)

@@ -43,7 +43,8 @@ in_filter p (x ∷ xs) n (inr more) on = go (p x) (in_filter p xs n more on)
     go true h = inr h
     go false h = h
 
-unit_there : (units : List Resource) (unit : ℕ) (o : Option Resource) → slice_get units unit ≡ o → 1 < option_map_or (λ (u : Resource). u.latency) o 0 → unit < length units
+unit_there : (units : List Resource) (unit : ℕ) (o : Option Resource) → slice_get units unit ≡ o
+    → 1 < option_map_or (λ (u : Resource). u.latency) o 0 → unit < length units
 unit_there units unit None e slow = absurd (omega (arith, slow))
 unit_there units unit (Some u) e slow = slice_get_within units unit u e
 
@@ -64,7 +65,8 @@ find_unit : (unit : ℕ) (made : List SlowPlaced) → Among (map (λ (x : SlowPl
 find_unit unit [] h = absurd h
 find_unit unit (y ∷ made) h = go (y.unit == unit) refl h (λ k. find_unit unit made k)
   where
-    go : (b : Bool) → (y.unit == unit) ≡ b → (y.unit ≡ unit) ⊎ Among (map (λ (x : SlowPlaced). x.unit) made) unit → (Among (map (λ (x : SlowPlaced). x.unit) made) unit → Found unit made) → Found unit (y ∷ made)
+    go : (b : Bool) → (y.unit == unit) ≡ b → (y.unit ≡ unit) ⊎ Among (map (λ (x : SlowPlaced). x.unit) made) unit
+        → (Among (map (λ (x : SlowPlaced). x.unit) made) unit → Found unit made) → Found unit (y ∷ made)
     go true e h more = (y, ap (λ b. if b then Some y else find (has_number unit) made) e, eqb-true y.unit unit e)
     go false e (inl same) more = absurd (eqb-false y.unit unit e same)
     go false e (inr k) more = let (x, found, same) = more k in (x, ap (λ b. if b then Some y else find (has_number unit) made) e ∙ found, same)
