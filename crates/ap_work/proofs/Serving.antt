@@ -1,5 +1,5 @@
 -- The units of a top are what the border asks.
-use Rattle.std.proofs.Common.{◌≡◌, ℕ, zero, suc, ◌+◌, ◌<◌, ◌≤◌, ◌==◌, Bool, true, false, if◌then◌else◌, List, [], ◌∷◌, filter, length, map, Option, Some, None, refl, sym, ap, subst, ◌∙◌, arith, inl, inr}
+use Rattle.std.proofs.Common.{◌≡◌, ◌≢◌, ℕ, zero, suc, ◌+◌, ◌<◌, ◌≤◌, ◌==◌, Bool, true, false, if◌then◌else◌, List, [], ◌∷◌, filter, length, map, Option, Some, None, refl, sym, ap, subst, ◌∙◌, arith, inl, inr}
 use Rattle.std.specs.Prelude.{◌⊎◌, find, nat_lt, slice_get}
 use Rattle.std.specs.Option.{option_map_or}
 use Rattle.std.specs.List.{AllByRecursion as Each, range_with_len}
@@ -10,7 +10,9 @@ use Rattle.ap_desc.specs.declared.design.Unit.{Unit as Resource}
 use Rattle.ap_model.specs.UnitUse.{latency_of}
 use Rattle.ap_model.proofs.ListLemmas.{found_keeps}
 use Rattle.ap_net.specs.Pending.{Among}
+use Rattle.ap_net.specs.Wiring.{NoneTwice}
 use Rattle.ap_net.proofs.Laws.{Extends-trans}
+use Rattle.ap_net.proofs.Lists.{All-both, All-unmap, some_same}
 use Rattle.ap_signals.specs.NetSignals.{is_slow_unit_of}
 use Rattle.ap_ctl.specs.Given.{is_slow_unit, is_used_in, slow_units}
 use Rattle.ap_ctl.specs.Lists.{EachPair}
@@ -18,11 +20,12 @@ use Rattle.ap_ctl.proofs.Whole.{given_later}
 use Rattle.ap_border.specs.Control.{IsBusyOf}
 use Rattle.ap_front.proofs.Controlled.{IsControl-Extends}
 use Rattle.ap_slow.specs.declared.place.SlowPlaced.{SlowPlaced}
-use Rattle.ap_asked.specs.Served.{GivesSlowUnit, IsServedUnit, IsTopWithControl, ServedUnitsGiveBorder}
+use Rattle.ap_asked.specs.Served.{GivesSlowUnit, HasWires, IsServedUnit, IsTopWithControl, ServedUnitsGiveBorder}
 use Rattle.ap_asked.proofs.Given.{are_joined, give_busy}
 use Rattle.ap_asked.proofs.Stood.{placed_served}
 use Rattle.ap_work.specs.Serving.{WorkServesBorder, has_number}
 use Rattle.ap_work.specs.Working.{busy_net}
+use Rattle.ap_work.proofs.Waiting.{has}
 
 -- A unit of several cycles is one of those that were placed.
 
@@ -71,6 +74,58 @@ find_unit unit (y ∷ made) h = go (y.unit == unit) refl h (λ k. find_unit unit
     go false e (inl same) more = absurd (eqb-false y.unit unit e same)
     go false e (inr k) more = let (x, found, same) = more k in (x, ap (λ b. if b then Some y else find (has_number unit) made) e ∙ found, same)
 
+-- No other has its number.
+
+each_filter : (P : ℕ → Type 0) (p : ℕ → Bool) (xs : List ℕ) → Each P xs → Each P (filter p xs)
+each_filter P p [] h = tt
+each_filter P p (x ∷ xs) h = go (p x) (each_filter P p xs h.1)
+  where
+    go : (b : Bool) → Each P (filter p xs) → Each P (if b then x ∷ filter p xs else filter p xs)
+    go true more = (h.0, more)
+    go false more = more
+
+once_filter : (p : ℕ → Bool) (xs : List ℕ) → NoneTwice xs → NoneTwice (filter p xs)
+once_filter p [] h = tt
+once_filter p (x ∷ xs) h = go (p x) (each_filter (λ n. n ≢ x) p xs h.0) (once_filter p xs h.1)
+  where
+    go : (b : Bool) → Each (λ n. n ≢ x) (filter p xs) → NoneTwice (filter p xs) → NoneTwice (if b then x ∷ filter p xs else filter p xs)
+    go true other more = (other, more)
+    go false other more = more
+
+above_range : (n low count : ℕ) → n < low → Each (λ m. m ≢ n) (range_with_len low count)
+above_range n low zero lt = tt
+above_range n low (suc count) lt = ((λ e. absurd (omega (arith, lt, e))), above_range n (low + 1) count (omega (arith, lt)))
+
+once_range : (low count : ℕ) → NoneTwice (range_with_len low count)
+once_range low zero = tt
+once_range low (suc count) = (above_range low (low + 1) count (omega arith), once_range (low + 1) count)
+
+abbrev FindsItself : ℕ → List SlowPlaced → SlowPlaced → Type 0
+FindsItself unit made y = y.unit ≡ unit → find (has_number unit) made ≡ Some y
+
+each_found : (unit : ℕ) (made : List SlowPlaced) → NoneTwice (map (λ (x : SlowPlaced). x.unit) made) → Each (FindsItself unit made) made
+each_found unit [] h = tt
+each_found unit (z ∷ made) h = (
+  (λ same. let on : (z.unit == unit) ≡ true = lit z.unit unit same in ap (λ b. if b then Some z else find (has_number unit) made) on),
+  All-both (λ (y : SlowPlaced). y.unit ≢ z.unit) (FindsItself unit made) (FindsItself unit (z ∷ made))
+      (λ y other found same. let off : (z.unit == unit) ≡ false = unlit z.unit unit (λ e. other (same ∙ sym e)) in ap (λ b. if b then Some z else find (has_number unit) made) off ∙ found same) made
+      (All-unmap (λ n. n ≢ z.unit) (λ (x : SlowPlaced). x.unit) made h.0) (each_found unit made h.1),
+)
+  where
+    lit : (a b : ℕ) → a ≡ b → (a == b) ≡ true
+    lit a b e = go (a == b) refl
+      where
+        go : (t : Bool) → (a == b) ≡ t → (a == b) ≡ true
+        go true q = q
+        go false q = absurd (eqb-false a b q e)
+
+    unlit : (a b : ℕ) → (a ≡ b → ⊥) → (a == b) ≡ false
+    unlit a b apart = go (a == b) refl
+      where
+        go : (t : Bool) → (a == b) ≡ t → (a == b) ≡ false
+        go false q = q
+        go true q = absurd (apart (eqb-true a b q))
+
 pub work_serves_border : ServedUnitsGiveBorder → WorkServesBorder
 work_serves_border border knows cards design r p own places kinds modules made old new d known fits parts h e top =
     let after = Extends-trans h.controlled new d h.drives.drives.extends e in
@@ -92,12 +147,16 @@ work_serves_border border knows cards design r p own places kinds modules made o
       units = λ stage unit slow.
           let (x, found, same) = find_unit unit made.units (subst (λ l. Among l unit) (sym h.placed.are) (among_slow design stage unit slow)) in
           let s : IsServedUnit knows design d made.nets x = found_keeps (IsServedUnit knows design d made.nets) (has_number unit) made.units x found served in
+          let once : Each (FindsItself unit made.units) made.units =
+          each_found unit made.units (subst NoneTwice (sym h.placed.are) (once_filter (is_slow_unit design) (range_with_len 0 (length design.units)) (once_range 0 (length design.units)))) in
           let own_slow : is_slow_unit_of design stage x.unit ≡ true = subst (λ n. is_slow_unit_of design stage n ≡ true) (sym same) slow in
           record {
             x = x;
             found = found;
             k = (s.stands).k;
             gives = subst (λ n. GivesSlowUnit cards design d modules made.given made.nets stage n (s.stands).k) same (border knows cards design d modules made.given made.nets is_top x s stage own_slow);
-            joins = λ q wires. are_joined knows cards design d modules made.nets parts x s q wires;
+            joins = λ y there is q wires.
+                let same_one : x ≡ y = some_same (sym found ∙ has (FindsItself unit made.units) made.units y once there is) in
+                are_joined knows cards design d modules made.nets parts x s q (subst (HasWires q) (sym same_one) wires);
           };
     }

@@ -1,6 +1,8 @@
 -- Wires that are still to be driven.
-use Rattle.std.proofs.Common.{◌≡◌, ◌≢◌, ℕ, zero, suc, ◌≤◌, List, [], ◌∷◌, ◌++◌, flat_map, length, refl, sym, ap, subst, arith}
+use Rattle.std.proofs.Common.{◌≡◌, ◌≢◌, ℕ, zero, suc, ◌-◌, ◌≤◌, true, List, [], ◌∷◌, ◌++◌, flat_map, length, refl, sym, ap, subst, arith}
+use Rattle.std.specs.Prelude.{Contains}
 use Rattle.std.specs.List.{AllByRecursion as Each}
+use Rattle.std.proofs.lemmas.List.Elements.{All-contains, All-from_recursion}
 use Rattle.ap_desc.specs.declared.design.Design.{Design}
 use Rattle.ap_net.specs.declared.cell.Wire.{Wire}
 use Rattle.ap_net.specs.Draft.{Draft}
@@ -9,10 +11,16 @@ use Rattle.ap_net.specs.Ready.{numbers}
 use Rattle.ap_net.specs.Wiring.{NoneTwice}
 use Rattle.ap_net.proofs.Lists.{All-both, All-from, All-join, All-map}
 use Rattle.ap_net.proofs.Wired.{number-IsNet}
+use Rattle.ap_ctl.specs.Given.{is_used_in}
 use Rattle.ap_slow.specs.declared.place.SlowPlaced.{SlowPlaced}
 use Rattle.ap_slow.specs.Driven.{driven_in, driven_of, unit_stage}
 use Rattle.ap_slow.specs.Placed.{late_nets}
-use Rattle.ap_work.specs.Leaving.{WaitsForStage, WaitsIn, WorkLeavesLate}
+use Rattle.ap_slow.proofs.Stage.{used_somewhere}
+use Rattle.ap_work.specs.Leaving.{WaitsForStage, WaitsIn, WorkLeavesLate, waiting_wires}
+
+-- what holds of each holds of one that is there
+pub has : {X : Type 0} (P : X → Type 0) (xs : List X) (x : X) → Each P xs → Contains xs x → P x
+has P xs x h there = All-contains P xs x (All-from_recursion P xs h) there
 
 -- what is driven is some of the late wires
 driven_each : (P : Wire → Type 0) (design : Design) (made : List SlowPlaced) → Each P (flat_map late_nets made)
@@ -115,7 +123,35 @@ module _ (design : Design) where
     where
       go : (s : ℕ) → WaitsApart driven s x → WaitsIn b s x
       go zero k = tt
-      go (suc s) k = (stay x.inputs.sel k.0 l.0, stay x.inputs.a k.1 l.1.0, stay x.inputs.b k.2 l.1.1.0)
+      go (suc s) k = (stay x.inputs.sel k.0 l.0, (stay x.inputs.a k.1 l.1.0, (stay x.inputs.b k.2 l.1.1.0, tt)))
+
+-- The wires for which units wait are some of the late ones.
+
+waiting_each : (P : Wire → Type 0) (made : List SlowPlaced) → Each P (flat_map late_nets made) → Each P (flat_map waiting_wires made)
+waiting_each P [] h = tt
+waiting_each P (x ∷ made) h = (h.0, (h.1.0, (h.1.1.0, waiting_each P made h.1.1.1.1.1)))
+
+waiting_other : (P : ℕ → Type 0) (made : List SlowPlaced) → Each P (numbers (flat_map late_nets made)) → Each P (numbers (flat_map waiting_wires made))
+waiting_other P [] h = tt
+waiting_other P (x ∷ made) h = (h.0, (h.1.0, (h.1.1.0, waiting_other P made h.1.1.1.1.1)))
+
+waiting_apart : (made : List SlowPlaced) → NoneTwice (numbers (flat_map late_nets made)) → NoneTwice (numbers (flat_map waiting_wires made))
+waiting_apart [] h = tt
+waiting_apart (x ∷ made) h = (
+  (h.0.0, (h.0.1.0, waiting_other (λ n. n ≢ x.inputs.sel.number) made h.0.1.1.1.1)),
+  (
+    (h.1.0.0, waiting_other (λ n. n ≢ x.inputs.a.number) made h.1.0.1.1.1),
+    (waiting_other (λ n. n ≢ x.inputs.b.number) made h.1.1.0.1.1, waiting_apart made h.1.1.1.1.1),
+  ),
+)
+
+used_waits : (design : Design) (d : Draft) (x : SlowPlaced) (stage : ℕ) → 1 ≤ stage → stage ≤ design.stages - 1 → is_used_in design stage x.unit ≡ true
+    → WaitsForStage design d x → Each (IsLate d) (waiting_wires x)
+used_waits design d x stage low high used h = go (unit_stage design x.unit) refl h
+  where
+    go : (s : ℕ) → unit_stage design x.unit ≡ s → WaitsIn d s x → Each (IsLate d) (waiting_wires x)
+    go zero e h = absurd (used_somewhere design x.unit stage low high used e)
+    go (suc s) e h = h
 
 pub work_leaves_late : WorkLeavesLate
 work_leaves_late design r p own places made old new h =
@@ -123,8 +159,12 @@ work_leaves_late design r p own places made old new h =
     let driven = numbers (flat_map (driven_of design) made.units) in
     let late : (x : Wire) → Each (λ n. n ≢ x.number) driven → IsLate h.controlled x → IsLate new x = h.drives.drives.late in
     let stay : (x : Wire) → IsLate h.united x → IsLate h.controlled x = λ x k. h.adds.late x (h.declares.adds.late x k) in
+    let waits : Each (WaitsForStage design new) made.units = wait_on design driven h.controlled new late made.units (waits_apart design made.units h.placed.apart) (All-from (IsLate h.united) (IsLate h.controlled) stay made_nets h.placed.late) in
     record {
-      units = wait_on design driven h.controlled new late made.units (waits_apart design made.units h.placed.apart) (All-from (IsLate h.united) (IsLate h.controlled) stay made_nets h.placed.late);
+      units = waits;
+      used = λ x there stage low high used. used_waits design new x stage low high used (has (WaitsForStage design new) made.units x waits there);
+      apart = waiting_apart made.units h.placed.apart;
+      above = waiting_each (λ (w : Wire). length old.nets ≤ w.number) made.units h.placed.above;
       taken = late made.taken
           (driven_other (λ n. n ≢ made.taken.number) design made.units
           (All-from (IsLate h.united) (λ (w : Wire). w.number ≢ made.taken.number) (λ w k e. let low = number-IsNet h.united.nets w k.net in let high = h.declares.above.0 in absurd (omega (arith, low, high, e))) made_nets h.placed.late))

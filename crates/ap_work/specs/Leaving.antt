@@ -1,5 +1,5 @@
 -- What the second part of a top leaves: how the draft grew, and which wires are still to be driven.
-use Rattle.std.specs.Prelude.{◌≡◌, ◌≢◌, ℕ, zero, suc, ◌≤◌, List, [], ◌∷◌, ◌++◌, length, map, slice_get, Some}
+use Rattle.std.specs.Prelude.{◌≡◌, ◌≢◌, ℕ, zero, suc, ◌-◌, ◌≤◌, true, List, [], ◌∷◌, ◌++◌, Contains, flat_map, length, map, slice_get, Some}
 use Rattle.std.specs.List.{AllByRecursion as Each}
 use Rattle.ap_bits.specs.declared.card.Card.{Card}
 use Rattle.ap_desc.specs.Clean.{FitsCards}
@@ -13,8 +13,10 @@ use Rattle.ap_net.specs.Draft.{CanFresh, Draft, Extends, names_of}
 use Rattle.ap_net.specs.Late.{IsLate, StayLate}
 use Rattle.ap_net.specs.Modules.{IsInstanceIn, ModuleText, ports_among}
 use Rattle.ap_net.specs.Names.{IsNew, IsNotNumbered}
-use Rattle.ap_net.specs.Wiring.{IsSource}
+use Rattle.ap_net.specs.Ready.{numbers}
+use Rattle.ap_net.specs.Wiring.{IsSource, NoneTwice}
 use Rattle.ap_signals.specs.NetRuns.{unit_part}
+use Rattle.ap_ctl.specs.Given.{is_used_in}
 use Rattle.ap_ctl.specs.Nets.{IsNoValid}
 use Rattle.ap_front.specs.declared.ports.Ports.{Ports}
 use Rattle.ap_front.specs.declared.registers.Registers.{Registers}
@@ -64,16 +66,23 @@ WorkFitsParts = (knows : Knows) (cards : List Card) (design : Design) (r : Regis
     → HasParts knows cards design modules → (h : Works design r p own places made old new) → Each (IsInstanceIn modules) h.placed.parts
 
 -- A unit that some line uses waits for its operation and its operands, which the stage drives.
+abbrev pub waiting_wires : SlowPlaced → List Wire
+waiting_wires x = x.inputs.sel ∷ x.inputs.a ∷ x.inputs.b ∷ []
+
 abbrev pub WaitsIn : Draft → ℕ → SlowPlaced → Type 0
 WaitsIn d zero x = Unit {0}
-WaitsIn d (suc s) x = IsLate d x.inputs.sel × IsLate d x.inputs.a × IsLate d x.inputs.b
+WaitsIn d (suc s) x = Each (IsLate d) (waiting_wires x)
 
 abbrev pub WaitsForStage : Design → Draft → SlowPlaced → Type 0
 WaitsForStage design d x = WaitsIn d (unit_stage design x.unit) x
 
--- These are still to be driven, and so are the wire of what is taken and all that was before.
+-- These are still to be driven, and so are the wire of what is taken and all that was before. No two of them are one, and none was there before.
 pub record LeavesLate (design : Design) (made : Work) (old new : Draft) : Type 0 where
   pub units : Each (WaitsForStage design new) made.units
+  pub used : (x : SlowPlaced) → Contains made.units x → (stage : ℕ) → 1 ≤ stage → stage ≤ design.stages - 1 → is_used_in design stage x.unit ≡ true
+      → Each (IsLate new) (waiting_wires x)
+  pub apart : NoneTwice (numbers (flat_map waiting_wires made.units))
+  pub above : Each (λ (w : Wire). length old.nets ≤ w.number) (flat_map waiting_wires made.units)
   pub taken : IsLate new made.taken
   pub others : StayLate old new
 

@@ -1,5 +1,5 @@
 -- What the units of several cycles of a top are to the border, over any modules that have the design's parts.
-use Rattle.std.specs.Prelude.{◌≡◌, ℕ, ◌==◌, Bool, true, List, codes, find, Some}
+use Rattle.std.specs.Prelude.{◌≡◌, ℕ, ◌==◌, Bool, true, List, Contains, codes, find, Some}
 use Rattle.std.specs.List.{AllByRecursion as Each}
 use Rattle.ap_bits.specs.declared.card.Card.{Card}
 use Rattle.ap_desc.specs.Clean.{FitsCards}
@@ -24,13 +24,14 @@ use Rattle.ap_work.specs.Working.{Works}
 abbrev pub has_number : ℕ → SlowPlaced → Bool
 has_number unit x = x.unit == unit
 
--- A unit that lines of the stage use was placed. Its instance is what the border asks, and joined to any port of the stage with its wires.
+-- A unit that lines of the stage use was placed, and none of those that were placed has its number but this one. Its instance is what the border
+-- asks, and joined to any port of the stage with its wires.
 pub record WorksUnit (cards : List Card) (design : Design) (d : Draft) (modules : List ModuleText) (made : Work) (stage unit : ℕ) : Type 0 where
   pub x : SlowPlaced
   pub found : find (has_number unit) made.units ≡ Some x
   pub k : ℕ
   pub gives : GivesSlowUnit cards design d modules made.given made.nets stage unit k
-  pub joins : (s : SlowUnit) → HasWires s x → JoinsUnit d modules k s
+  pub joins : (y : SlowPlaced) → Contains made.units y → y.unit ≡ unit → (s : SlowUnit) → HasWires s y → JoinsUnit d modules k s
 
 -- All of them are, and control has their busy nets.
 pub record ServesBorder (knows : Knows) (cards : List Card) (design : Design) (d : Draft) (modules : List ModuleText) (made : Work) : Type 0 where
