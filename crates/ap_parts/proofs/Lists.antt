@@ -67,13 +67,6 @@ same_map f g (x ∷ xs) (y ∷ ys) long h =
     (λ i. head i ∷ tail i)
 
 -- the same name stands at one place
-pub one_place : (names : List (List ℕ)) (i j : ℕ) (name : List ℕ) → AreDistinct names → slice_get names i ≡ Some name → slice_get names j ≡ Some name
-    → i ≡ j
-one_place [] i j name d a b = absurd cc
-one_place (x ∷ names) zero zero name d a b = refl
-one_place (x ∷ names) zero (suc j) name d a b = absurd (All-at (λ other. other ≢ x) names j name d.0 b (sym (some_same a)))
-one_place (x ∷ names) (suc i) zero name d a b = absurd (All-at (λ other. other ≢ x) names i name d.0 a (sym (some_same b)))
-one_place (x ∷ names) (suc i) (suc j) name d a b = ap suc (one_place names i j name d.1 a b)
 
 pub distinct_left : (xs ys : List (List ℕ)) → AreDistinct (xs ++ ys) → AreDistinct xs
 distinct_left [] ys h = tt

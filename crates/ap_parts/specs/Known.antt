@@ -25,7 +25,7 @@ use Rattle.ap_store.specs.FileModules.{file_needs}
 use Rattle.ap_store.specs.FilePorts.{file_ports}
 use Rattle.ap_unit.specs.Slow.{slow_needs}
 use Rattle.ap_unit.specs.Units.{IsUnit, ports_by}
-use Rattle.ap_unit.specs.Kinds.{KindsDiffer}
+use Rattle.ap_unit.specs.Kinds.{place_of}
 use Rattle.ap_parts.specs.Parts.{AreBuilt, AreParts, HasFileModule, file_module_name, unit_module_name}
 
 -- What may depend on what: units of several cycles and files depend as theirs do, by the names of their modules, and the outside looks where it
@@ -101,14 +101,22 @@ pub record IsFoundWith (modules : List ModuleText) (name : List ℕ) (ports : Li
   pub found : module_named modules name ≡ Some whole
   pub has : whole.ports ≡ ports
 
+-- The kind at this place is the first one of its name; and so is each kind that a unit of the design has. In a shelf all kinds have different
+-- names, and a description means the first kind of the name that its unit has.
+abbrev pub IsFirstKind : List Card → ℕ → Type 0
+IsFirstKind cards kind = (card : Card) → slice_get cards kind ≡ Some card → place_of card.name cards ≡ Some kind
+
+abbrev pub AreFirstKinds : List Card → Design → Type 0
+AreFirstKinds cards design = Each (λ (u : Resource). IsFirstKind cards u.kind) design.units
+
 -- What is built are the design's parts, they have all that a top needs, and the top knows them.
 abbrev pub BuiltAreParts : Type 0
 BuiltAreParts = (cards : List Card) (design : Design) (modules : List ModuleText) (places : List ℕ) (kinds : ℕ) → FitsCards design cards
-    → KindsDiffer cards → AreBuilt cards design modules places kinds → AreParts cards design modules
+    → AreFirstKinds cards design → AreBuilt cards design modules places kinds → AreParts cards design modules
 
 abbrev pub BuiltHaveParts : Type 0
 BuiltHaveParts = (cards : List Card) (design : Design) (modules : List ModuleText) (places : List ℕ) (kinds : ℕ) → FitsCards design cards
-    → KindsDiffer cards → AreBuilt cards design modules places kinds → HasParts (known_by cards) cards design modules
+    → AreFirstKinds cards design → AreBuilt cards design modules places kinds → HasParts (known_by cards) cards design modules
 
 abbrev pub BuiltAreKnown : Type 0
 BuiltAreKnown = (cards : List Card) (design : Design) (modules : List ModuleText) (places : List ℕ) (kinds : ℕ) → FitsCards design cards
