@@ -66,8 +66,6 @@ same_map f g (x ∷ xs) (y ∷ ys) long h =
     let tail : map f xs ≡ map g ys = same_map f g xs ys (omega arith) (λ i v w at there. h (suc i) v w at there) in
     (λ i. head i ∷ tail i)
 
--- the same name stands at one place
-
 pub distinct_left : (xs ys : List (List ℕ)) → AreDistinct (xs ++ ys) → AreDistinct xs
 distinct_left [] ys h = tt
 distinct_left (x ∷ xs) ys h = (All-front (λ other. other ≢ x) xs ys h.0, distinct_left xs ys h.1)
