@@ -5,3 +5,6 @@ pub mod ShownWrites
 pub mod Stored
 pub mod PortsListed
 pub mod Led
+pub mod SeenNets
+pub mod Decimals
+pub mod IdlePorts
