@@ -8,3 +8,5 @@ pub mod Led
 pub mod SeenNets
 pub mod Decimals
 pub mod IdlePorts
+pub mod Pigeons
+pub mod Leaving

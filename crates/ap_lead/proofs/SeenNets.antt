@@ -66,7 +66,7 @@ planned_high : (least n : ℕ) (plan : List Planned) → least ≤ n → Each (�
 planned_high least n [] low = tt
 planned_high least n (p ∷ plan) low = (low, planned_high least (n + 1) plan (omega (arith, low)))
 
-regs_high : (least n : ℕ) (regs : List Reg) → least ≤ n → Each (λ (w : Wire). least ≤ w.number) (reg_wires n regs)
+pub regs_high : (least n : ℕ) (regs : List Reg) → least ≤ n → Each (λ (w : Wire). least ≤ w.number) (reg_wires n regs)
 regs_high least n [] low = tt
 regs_high least n (r ∷ regs) low = (low, regs_high least (n + 1) regs (omega (arith, low)))
 

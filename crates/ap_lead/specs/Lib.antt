@@ -4,3 +4,4 @@ pub mod Storing
 pub mod Leading
 pub mod Seen
 pub mod Idle
+pub mod Left

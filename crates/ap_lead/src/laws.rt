@@ -1,6 +1,7 @@
 //! Laws of the definitions. They do nothing: their contracts are what they say.
 ghost use Rattle.ap_lead.specs.Idle.{GroupsAreOfUsed, IdlePortsHaveNone, NewNamesAreOff};
 ghost use Rattle.ap_lead.specs.Leading.{FilesAreInstances, LeadGivesFiles, LeadGivesRegs, LeadsFollow};
+ghost use Rattle.ap_lead.specs.Left.{KnownFilesNeed, LeadsLeaveRest};
 ghost use Rattle.ap_lead.specs.Seen.{LeadsAreSeen, LeadsBegin, RegsAreClocked};
 ghost use Rattle.ap_lead.specs.Storing.{FilesAreKnown};
 ghost use Rattle.ap_lead.specs.Writes.{FileWritesAreShown, RegWritesAreShown};
@@ -59,4 +60,15 @@ pub fn groups_are_used()
 pub fn idle_ports_are_off()
     ensures none { IdlePortsHaveNone }
     ensures off { NewNamesAreOff }
+{}
+
+/// What the first part leaves to those that come later: the names of valid bits and units are new, all outputs are driven later, no two ports
+/// have one number, and the registers of the front take nothing yet.
+pub fn lead_leaves_rest()
+    ensures { LeadsLeaveRest }
+{}
+
+/// By the names of the modules that are built for a shelf, files depend as they do.
+pub fn files_need_as_known()
+    ensures { KnownFilesNeed }
 {}
