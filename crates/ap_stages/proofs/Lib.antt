@@ -9,3 +9,6 @@ pub mod Gathering
 pub mod Same
 pub mod Staged
 pub mod Onward
+pub mod Leaving
+pub mod Together
+pub mod Around

@@ -8,5 +8,6 @@ pub mod laws;
 mod link;
 pub mod nodes;
 pub mod stage;
+pub mod stages;
 
 pub use ap_bits::NoMemory;

@@ -1,0 +1,134 @@
+-- What the stages of a design leave as it was, and what they follow from.
+use Rattle.std.proofs.Common.{◌≡◌, ℕ, zero, suc, ◌+◌, ◌<◌, ◌≤◌, ◌==◌, true, List, [], ◌∷◌, ◌++◌, length, map, flat_map, Option, Some, None, inl, inr, refl, sym, ap, subst, ◌∙◌, arith, ⊎_elim, eqb-true}
+use Rattle.std.specs.Prelude.{◌≢◌, ◌⊎◌, find, slice_get}
+use Rattle.std.specs.List.{AllByRecursion as Each}
+use Rattle.std.specs.Option.{option_map}
+use Rattle.std.proofs.lemmas.Option.{same_Some, slice_get_within}
+use Rattle.ap_desc.proofs.OnePort.{each_as}
+use Rattle.ap_desc.specs.Clean.{IsClean}
+use Rattle.ap_desc.specs.declared.design.Design.{Design}
+use Rattle.ap_desc.specs.declared.design.Node.{Node as DesignNode}
+use Rattle.ap_desc.specs.declared.design.Node.TheVariants as design_node
+use Rattle.ap_desc.specs.declared.design.Unit.{Unit as Resource}
+use Rattle.ap_merge.specs.declared.table.Choice.{Choice}
+use Rattle.ap_merge.specs.declared.table.Select.{Select}
+use Rattle.ap_net.specs.declared.cell.Wire.{Wire}
+use Rattle.ap_net.specs.Draft.{Draft}
+use Rattle.ap_net.specs.Modules.{ModuleText}
+use Rattle.ap_net.specs.Names.{IsNew}
+use Rattle.ap_net.specs.Ready.{Dependence, ReadyAfter}
+use Rattle.ap_pipe.specs.declared.table.StageSlots.{StageSlots}
+use Rattle.ap_ports.proofs.Members.{each_get, each_of}
+use Rattle.ap_ports.specs.Numbers.{number_of_node}
+use Rattle.ap_signals.specs.NetRuns.{unit_part}
+use Rattle.ap_stage.specs.declared.chain.Node.{Node}
+use Rattle.ap_stage.specs.Reads.{IsNone}
+use Rattle.ap_stage.specs.Served.{IsReadyNode, names_placed, stage_names, stage_wires, wires_of}
+use Rattle.ap_stage.proofs.Listed.{each_both, each_found, each_left, each_right}
+use Rattle.ap_stages.specs.Around.{IsInNone, IsReadySupply, StagesAreReady, StagesLeaveNames, StagesLeaveNodes, StagesLeaveWires}
+use Rattle.ap_stages.specs.Onward.{IsLeft}
+use Rattle.ap_stages.specs.Stages.{AreStaged, all_nodes}
+use Rattle.ap_stages.specs.Stood.{AreApartSupplies, wires_with}
+use Rattle.ap_stages.specs.Supplies.{IsNodeBy, IsNodeFor, supply_of}
+use Rattle.ap_stages.specs.declared.begin.SharedNets.{SharedNets}
+use Rattle.ap_stages.specs.declared.begin.StageNets.{StageNets}
+use Rattle.ap_stages.specs.declared.nodes.Supplied.{Supplied}
+use Rattle.ap_stages.specs.declared.nodes.Supply.{Supply}
+use Rattle.ap_stages.specs.declared.nodes.Supply.TheVariants as supply
+use Rattle.ap_stages.specs.declared.stage.ServedStage.{ServedStage}
+use Rattle.ap_stages.proofs.Leaving.{left_by, names_each, node_at, wires_each}
+use Rattle.ap_stages.proofs.Onward.{others}
+use Rattle.ap_stages.proofs.Standing.{IsPartName, names_are, wires_are}
+
+-- Ports of all stages. -----------------------------------------------------------------------------------------------------
+
+each_flat : {X Y : Type 0} (P : Y → Type 0) (f : X → List Y) (xs : List X) → ((k : ℕ) (x : X) → slice_get xs k ≡ Some x → Each P (f x)) → Each P (flat_map f xs)
+each_flat P f [] h = tt
+each_flat P f (x ∷ xs) h = each_both P (f x) (flat_map f xs) (h 0 x refl) (each_flat P f xs (λ k y at. h (suc k) y at))
+
+-- what holds of each port of each stage
+each_port : (P : Node → Type 0) (stages : List ServedStage) → ((k : ℕ) (s : ServedStage) → slice_get stages k ≡ Some s → (j : ℕ) (n : Node) → slice_get s.nodes.items j ≡ Some n → P n) → Each P (all_nodes stages)
+each_port P stages h = each_flat P (λ (s : ServedStage). s.nodes.items) stages (λ k s at. each_of P s.nodes.items (λ j n there. h k s at j n there))
+
+-- none of a stage's wires is one of each port's, nor is a name
+wires_in : (nodes : List Node) (w : Wire) → IsNone (stage_wires nodes) w → (j : ℕ) (n : Node) → slice_get nodes j ≡ Some n → IsNone (wires_of n) w
+wires_in [] w h j n at = absurd cc
+wires_in (m ∷ nodes) w h zero n at = subst (λ z. IsNone (wires_of z) w) (same_Some m n at) (each_left (λ (z : Wire). z.number ≢ w.number) (wires_of m) (stage_wires nodes) h)
+wires_in (m ∷ nodes) w h (suc j) n at = wires_in nodes w (each_right (λ (z : Wire). z.number ≢ w.number) (wires_of m) (stage_wires nodes) h) j n at
+
+names_in : (nodes : List Node) (name : List ℕ) → IsNew name (stage_names nodes) → (j : ℕ) (n : Node) → slice_get nodes j ≡ Some n → IsNew name (names_placed n)
+names_in [] name h j n at = absurd cc
+names_in (m ∷ nodes) name h zero n at = subst (λ z. IsNew name (names_placed z)) (same_Some m n at) (each_left (λ other. other ≢ name) (names_placed m) (stage_names nodes) h)
+names_in (m ∷ nodes) name h (suc j) n at = names_in nodes name (each_right (λ other. other ≢ name) (names_placed m) (stage_names nodes) h) j n at
+
+-- what is found is one of those
+supplied_of : (P : Supply → Type 0) (supplies : List Supplied) (number : ℕ) (s : Supply) → Each (λ (x : Supplied). P x.supply) supplies → supply_of supplies number ≡ Some s → P s
+supplied_of P supplies number s each found = go (find (λ (x : Supplied). x.number == number) supplies) refl found
+  where
+    go : (o : Option Supplied) → find (λ (x : Supplied). x.number == number) supplies ≡ o → option_map (λ (x : Supplied). x.supply) o ≡ Some s → P s
+    go (Some x) is e = subst P (same_Some x.supply s e) (each_found (λ (z : Supplied). P z.supply) (λ (z : Supplied). z.number == number) supplies x is each)
+    go None is e = absurd cc
+
+node_ready : (by : Dependence) (d : Draft) (base : List ℕ) (design : Design) (select : Select) (x : DesignNode) (s : Supply) (n : Node) → IsNodeBy design select x s n → IsReadySupply by d base s → IsReadyNode by d base n
+node_ready by d base design select (design_node.Unit v) (supply.Quick place bits) n h ready = subst (IsReadyNode by d base) (sym h.3) tt
+node_ready by d base design select (design_node.Unit v) (supply.Slow sel a b y) n h ready = subst (IsReadyNode by d base) (sym h) ready
+node_ready by d base design select (design_node.FileRead file port) (supply.Read index value) n h ready = subst (IsReadyNode by d base) (sym h) ready
+node_ready by d base design select (design_node.MemRead mem) (supply.Read index value) n h ready = subst (IsReadyNode by d base) (sym h) ready
+node_ready by d base design select _ _ n h ready = absurd h
+
+module _ (design : Design) (slots : List StageSlots) (choices : List Choice) (supplies : List Supplied) (orders : List (List DesignNode)) (modules : List ModuleText) (shared : SharedNets) (owns : List StageNets) (old new : Draft) (stages : List ServedStage)
+    (staged : AreStaged design slots choices supplies orders modules shared owns old new stages) where
+  -- the node of a port of a stage, in the order of the stage
+  pub port_at : (k : ℕ) (s : ServedStage) → slice_get stages k ≡ Some s → (j : ℕ) (n : Node) → slice_get s.nodes.items j ≡ Some n
+      → (order : List DesignNode) × (y : DesignNode) × (slice_get orders k ≡ Some order) × (slice_get order j ≡ Some y) × IsNodeFor design choices supplies y n
+  port_at k s at j n there =
+      let m = staged.each k s at in
+      let (y, y_at, for) = node_at design choices supplies m.order s.nodes.items m.staged.ports j n there in
+      (m.order, y, m.has_order, y_at, for)
+
+  -- what holds of each port that a node has
+  pub each_node : (P : Node → Type 0) → ((k : ℕ) (order : List DesignNode) (j : ℕ) (y : DesignNode) (n : Node) → slice_get orders k ≡ Some order → slice_get order j ≡ Some y → IsNodeFor design choices supplies y n → P n) → Each P (all_nodes stages)
+  each_node P h = each_port P stages (λ k s at j n there. let (order, y, has, y_at, for) = port_at k s at j n there in h k order j y n has y_at for)
+
+  ready : (by : Dependence) (base : List ℕ) → Each (λ (s : Supplied). IsReadySupply by old base s.supply) supplies → Each (IsReadyNode by old base) (all_nodes stages)
+  ready by base each = each_node (IsReadyNode by old base) (λ k order j y n has y_at for.
+      node_ready by old base design for.select y for.supply n for.made (supplied_of (IsReadySupply by old base) supplies (number_of_node y) for.supply each for.found))
+
+  no_wires : (w : Wire) → Each (λ (s : Supplied). IsNone (wires_with s.supply) w) supplies → IsNone (stage_wires (all_nodes stages)) w
+  no_wires w each = wires_each (λ (z : Wire). z.number ≢ w.number) (all_nodes stages) (λ i n at.
+      each_get (λ m. IsNone (wires_of m) w) (all_nodes stages) i n (each_node (λ m. IsNone (wires_of m) w) (λ k order j y m has y_at for.
+      subst (λ ws. IsNone ws w) (sym (wires_are design for.select y for.supply m for.made)) (supplied_of (λ s. IsNone (wires_with s) w) supplies (number_of_node y) for.supply each for.found))) at)
+
+  no_names : (name : List ℕ) → Each (λ (u : Resource). unit_part u ≢ name) design.units → IsNew name (stage_names (all_nodes stages))
+  no_names name each = names_each (λ other. other ≢ name) (all_nodes stages) (λ i n at.
+      each_get (λ m. Each (λ other. other ≢ name) (names_placed m)) (all_nodes stages) i n (each_node (λ m. Each (λ other. other ≢ name) (names_placed m)) (λ k order j y m has y_at for.
+      each_as (IsPartName design (number_of_node y)) (λ other. other ≢ name) (λ other part same. each_get (λ (u : Resource). unit_part u ≢ name) design.units (number_of_node y) part.unit each part.at (sym part.is ∙ same))
+      (names_placed m) (names_are design for.select y for.supply m for.made))) at)
+
+  module _ (clean : IsClean design) (apart : AreApartSupplies supplies) (x : DesignNode) (s : Supply) (found : supply_of supplies (number_of_node x) ≡ Some s) (nowhere : IsInNone orders x) where
+    left_of : (k : ℕ) (z : ServedStage) → slice_get stages k ≡ Some z → IsLeft design z.nodes.items x s
+    left_of k z at =
+        let m = staged.each k z at in
+        left_by design choices supplies m.order z.nodes.items m.staged.ports clean apart x s found (λ j y there. nowhere k m.order j y m.has_order there)
+
+    left_in : IsLeft design (all_nodes stages) x s
+    left_in = record {
+      wires = each_of (IsNone (stage_wires (all_nodes stages))) (wires_with s) (λ i w at. wires_each (λ (z : Wire). z.number ≢ w.number) (all_nodes stages) (λ l n there.
+          each_get (λ m. IsNone (wires_of m) w) (all_nodes stages) l n (each_port (λ m. IsNone (wires_of m) w) stages (λ k z has j m m_at. wires_in z.nodes.items w (each_get (IsNone (stage_wires z.nodes.items)) (wires_with s) i w (left_of k z has).wires at) j m m_at)) there));
+      names = λ v u is u_at. names_each (λ name. name ≢ unit_part u) (all_nodes stages) (λ l n there.
+          each_get (λ m. Each (λ name. name ≢ unit_part u) (names_placed m)) (all_nodes stages) l n (each_port (λ m. Each (λ name. name ≢ unit_part u) (names_placed m)) stages (λ k z has j m m_at. names_in z.nodes.items (unit_part u) ((left_of k z has).names v u is u_at) j m m_at)) there);
+    }
+
+pub stages_are_ready : StagesAreReady
+stages_are_ready design slots choices supplies orders modules shared owns old new stages staged by base nets given = staged.follows by base nets (ready design slots choices supplies orders modules shared owns old new stages staged by base given)
+
+pub stages_leave_wires : StagesLeaveWires
+stages_leave_wires design slots choices supplies orders modules shared owns old new stages staged w each late = staged.serves.serves.late w late (no_wires design slots choices supplies orders modules shared owns old new stages staged w each)
+
+pub stages_leave_names : StagesLeaveNames
+stages_leave_names design slots choices supplies orders modules shared owns old new stages staged name other each free =
+    staged.serves.serves.names name other (subst (IsNew name) (sym staged.serves.named) (no_names design slots choices supplies orders modules shared owns old new stages staged name each)) free
+
+pub stages_leave_nodes : StagesLeaveNodes
+stages_leave_nodes design slots choices supplies orders modules shared owns old new stages staged clean apart cards x s found nowhere h =
+    others design cards old new modules (all_nodes stages) x s staged.serves (left_in design slots choices supplies orders modules shared owns old new stages staged clean apart x s found nowhere) h
