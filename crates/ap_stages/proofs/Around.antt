@@ -13,19 +13,26 @@ use Rattle.ap_desc.specs.declared.design.Unit.{Unit as Resource}
 use Rattle.ap_merge.specs.declared.table.Choice.{Choice}
 use Rattle.ap_merge.specs.declared.table.Select.{Select}
 use Rattle.ap_net.specs.declared.cell.Wire.{Wire}
-use Rattle.ap_net.specs.Draft.{Draft}
+use Rattle.ap_net.specs.declared.net.Instance.{Instance}
+use Rattle.ap_net.specs.Draft.{Draft, Extends, names_of}
 use Rattle.ap_net.specs.Modules.{ModuleText}
-use Rattle.ap_net.specs.Names.{IsNew}
+use Rattle.ap_net.specs.Names.{AreDistinct, IsNew}
 use Rattle.ap_net.specs.Ready.{Dependence, ReadyAfter}
+use Rattle.ap_net.specs.Wiring.{taken_names}
+use Rattle.ap_net.proofs.Laws.{Extends-trans, stays}
 use Rattle.ap_pipe.specs.declared.table.StageSlots.{StageSlots}
 use Rattle.ap_ports.proofs.Members.{each_get, each_of}
 use Rattle.ap_ports.specs.Numbers.{number_of_node}
 use Rattle.ap_signals.specs.NetRuns.{unit_part}
 use Rattle.ap_stage.specs.declared.chain.Node.{Node}
+use Rattle.ap_stage.specs.declared.chain.Node.TheVariants as node
+use Rattle.ap_stage.specs.declared.node.Course.{Course}
+use Rattle.ap_stage.specs.declared.source.Ground.{Ground}
+use Rattle.ap_stage.specs.Chained.{IsServedNode}
 use Rattle.ap_stage.specs.Reads.{IsNone}
 use Rattle.ap_stage.specs.Served.{IsReadyNode, names_placed, stage_names, stage_wires, wires_of}
 use Rattle.ap_stage.proofs.Listed.{each_both, each_found, each_left, each_right}
-use Rattle.ap_stages.specs.Around.{IsInNone, IsReadySupply, StagesAreReady, StagesLeaveNames, StagesLeaveNodes, StagesLeaveWires}
+use Rattle.ap_stages.specs.Around.{IsInNone, IsJoined, IsReadySupply, PlacedAreJoined, StagesAreReady, StagesLeaveNames, StagesLeaveNodes, StagesLeaveWires}
 use Rattle.ap_stages.specs.Onward.{IsLeft}
 use Rattle.ap_stages.specs.Stages.{AreStaged, all_nodes}
 use Rattle.ap_stages.specs.Stood.{AreApartSupplies, wires_with}
@@ -37,6 +44,7 @@ use Rattle.ap_stages.specs.declared.nodes.Supply.{Supply}
 use Rattle.ap_stages.specs.declared.nodes.Supply.TheVariants as supply
 use Rattle.ap_stages.specs.declared.stage.ServedStage.{ServedStage}
 use Rattle.ap_stages.proofs.Leaving.{left_by, names_each, node_at, wires_each}
+use Rattle.ap_stages.proofs.Names.{mapped_at}
 use Rattle.ap_stages.proofs.Onward.{others}
 use Rattle.ap_stages.proofs.Standing.{IsPartName, names_are, wires_are}
 
@@ -132,3 +140,57 @@ stages_leave_names design slots choices supplies orders modules shared owns old 
 pub stages_leave_nodes : StagesLeaveNodes
 stages_leave_nodes design slots choices supplies orders modules shared owns old new stages staged clean apart cards x s found nowhere h =
     others design cards old new modules (all_nodes stages) x s staged.serves (left_in design slots choices supplies orders modules shared owns old new stages staged clean apart x s found nowhere) h
+
+-- The instances that were placed. ------------------------------------------------------------------------------------------
+
+-- an instance of this name stands in the draft, and connects one of the modules
+record HasInstance (d : Draft) (modules : List ModuleText) (name : List ℕ) : Type 0 where
+  place : ℕ
+  of : Instance
+  at : slice_get d.instances place ≡ Some of
+  named : of.name ≡ name
+  joined : IsJoined modules of
+
+right_at : {X : Type 0} (xs ys : List X) (j : ℕ) (y : X) → slice_get ys j ≡ Some y → (k : ℕ) × (slice_get (xs ++ ys) k ≡ Some y)
+right_at [] ys j y at = (j, at)
+right_at (x ∷ xs) ys j y at = let (k, there) = right_at xs ys j y at in (suc k, there)
+
+one_place : (names : List (List ℕ)) → AreDistinct names → (i j : ℕ) (a : List ℕ) → slice_get names i ≡ Some a → slice_get names j ≡ Some a → i ≡ j
+one_place [] h i j a at there = absurd cc
+one_place (x ∷ names) h zero zero a at there = refl
+one_place (x ∷ names) h zero (suc j) a at there = absurd (each_get (λ other. other ≢ x) names j a h.0 there (sym (same_Some x a at)))
+one_place (x ∷ names) h (suc i) zero a at there = absurd (each_get (λ other. other ≢ x) names i a h.0 at (sym (same_Some x a there)))
+one_place (x ∷ names) h (suc i) (suc j) a at there = ap suc (one_place names h.1 i j a at there)
+
+name_at : (d : Draft) (k : ℕ) (i : Instance) → slice_get d.instances k ≡ Some i → slice_get (names_of d) k ≡ Some i.name
+name_at d k i at = stays (map (λ (x : Instance). x.name) d.instances) (names_of d) (taken_names d.nets, refl) k i.name (mapped_at (λ (x : Instance). x.name) d.instances k i at)
+
+node_names : (a b : Draft) (ground : Ground) (modules : List ModuleText) (courses : List Course) → Extends a b → (n : Node) → IsServedNode a ground modules courses n → Each (HasInstance b modules) (names_placed n)
+node_names a b ground modules courses e (node.Quick u) h =
+    (record { place = h.k; of = h.of; at = stays a.instances b.instances e.instances h.k h.of h.placed; named = h.is_unit.named; joined = (u.module, h.m, h.is_module, h.is_unit.connects) }, tt)
+node_names a b ground modules courses e (node.Slow u) h = tt
+node_names a b ground modules courses e (node.Read p) h = tt
+
+pub placed_are_joined : PlacedAreJoined
+placed_are_joined design slots choices supplies orders modules shared owns old new later stages staged onward kept = each_of (IsJoined modules) staged.serves.placed (λ j i at. joined j i at)
+  where
+    named : (k : ℕ) (s : ServedStage) → slice_get stages k ≡ Some s → (j : ℕ) (n : Node) → slice_get s.nodes.items j ≡ Some n → Each (HasInstance later modules) (names_placed n)
+    named k s at j n there =
+        let m = staged.each k s at in
+        node_names m.after later s.ground modules s.courses.items (Extends-trans m.after new later m.ends.extends onward) n
+        (each_get (IsServedNode m.after s.ground modules s.courses.items) s.nodes.items j n m.staged.all.served there)
+
+    all_named : Each (HasInstance later modules) (stage_names (all_nodes stages))
+    all_named = names_each (HasInstance later modules) (all_nodes stages) (λ l n there.
+        each_get (λ m. Each (HasInstance later modules) (names_placed m)) (all_nodes stages) l n (each_port (λ m. Each (HasInstance later modules) (names_placed m)) stages named) there)
+
+    joined : (j : ℕ) (i : Instance) → slice_get staged.serves.placed j ≡ Some i → IsJoined modules i
+    joined j i at =
+        let name_there : slice_get (stage_names (all_nodes stages)) j ≡ Some i.name =
+            ap (λ l. slice_get l j) (sym staged.serves.named) ∙ mapped_at (λ (x : Instance). x.name) staged.serves.placed j i at in
+        let h = each_get (HasInstance later modules) (stage_names (all_nodes stages)) j i.name all_named name_there in
+        let (k, k_at) = right_at old.instances staged.serves.placed j i at in
+        let own : slice_get later.instances k ≡ Some i = stays new.instances later.instances onward.instances k i (ap (λ l. slice_get l k) staged.serves.serves.instances ∙ k_at) in
+        let same : k ≡ h.place = one_place (names_of later) kept.connected.distinct k h.place i.name (name_at later k i own) (name_at later h.place h.of h.at ∙ ap Some h.named) in
+        let is : h.of ≡ i = same_Some h.of i (sym h.at ∙ sym (ap (slice_get later.instances) same) ∙ own) in
+        subst (IsJoined modules) is h.joined

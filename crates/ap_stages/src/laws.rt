@@ -1,4 +1,5 @@
 //! Laws of the definitions. They do nothing: their contracts are what they say.
+ghost use Rattle.ap_stages.specs.Around.{PlacedAreJoined, StagesAreReady, StagesLeaveNames, StagesLeaveNodes, StagesLeaveWires};
 ghost use Rattle.ap_stages.specs.Onward.{OthersStand, SharedGoOn};
 
 /// What stands for the nodes of further stages stands on while the ports of a stage are served, where these drive no wire of theirs and no
@@ -6,4 +7,15 @@ ghost use Rattle.ap_stages.specs.Onward.{OthersStand, SharedGoOn};
 pub fn stages_go_on()
     ensures others { OthersStand }
     ensures shared { SharedGoOn }
+{}
+
+/// Once all stages are made: what came, what was driven and all nets of their instructions are ready where the nets on which the stages
+/// stand are, and what is given for nodes. A wire that is there for no node is late still, a name that is no unit's is new still, and what
+/// stands for a node that no stage has stands still. Each instance that was placed connects one of the modules.
+pub fn stages_are_made()
+    ensures ready { StagesAreReady }
+    ensures wires { StagesLeaveWires }
+    ensures names { StagesLeaveNames }
+    ensures nodes { StagesLeaveNodes }
+    ensures joined { PlacedAreJoined }
 {}
