@@ -187,7 +187,7 @@ placed_are_joined design slots choices supplies orders modules shared owns old n
     joined : (j : ℕ) (i : Instance) → slice_get staged.serves.placed j ≡ Some i → IsJoined modules i
     joined j i at =
         let name_there : slice_get (stage_names (all_nodes stages)) j ≡ Some i.name =
-            ap (λ l. slice_get l j) (sym staged.serves.named) ∙ mapped_at (λ (x : Instance). x.name) staged.serves.placed j i at in
+        ap (λ l. slice_get l j) (sym staged.serves.named) ∙ mapped_at (λ (x : Instance). x.name) staged.serves.placed j i at in
         let h = each_get (HasInstance later modules) (stage_names (all_nodes stages)) j i.name all_named name_there in
         let (k, k_at) = right_at old.instances staged.serves.placed j i at in
         let own : slice_get later.instances k ≡ Some i = stays new.instances later.instances onward.instances k i (ap (λ l. slice_get l k) staged.serves.serves.instances ∙ k_at) in

@@ -12,3 +12,4 @@ pub mod Onward
 pub mod Leaving
 pub mod Together
 pub mod Around
+pub mod Owning

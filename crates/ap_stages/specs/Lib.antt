@@ -6,3 +6,4 @@ pub mod Staged
 pub mod Onward
 pub mod Stages
 pub mod Around
+pub mod Own

@@ -1,6 +1,7 @@
 //! Laws of the definitions. They do nothing: their contracts are what they say.
 ghost use Rattle.ap_stages.specs.Around.{PlacedAreJoined, StagesAreReady, StagesLeaveNames, StagesLeaveNodes, StagesLeaveWires};
 ghost use Rattle.ap_stages.specs.Onward.{OthersStand, SharedGoOn};
+ghost use Rattle.ap_stages.specs.Own.{OwnNetsAreReadable};
 
 /// What stands for the nodes of further stages stands on while the ports of a stage are served, where these drive no wire of theirs and no
 /// instance that is placed has the name of one of their units. So do the registers and the input ports.
@@ -18,4 +19,9 @@ pub fn stages_are_made()
     ensures names { StagesLeaveNames }
     ensures nodes { StagesLeaveNodes }
     ensures joined { PlacedAreJoined }
+{}
+
+/// What is asked of the nets of all stages holds where they are registers of the stages and what control decodes.
+pub fn own_nets_are_readable()
+    ensures { OwnNetsAreReadable }
 {}

@@ -7,6 +7,7 @@ mod copy;
 pub mod laws;
 mod link;
 pub mod nodes;
+pub mod own;
 pub mod stage;
 pub mod stages;
 

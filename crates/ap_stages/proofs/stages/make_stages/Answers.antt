@@ -35,8 +35,8 @@ make_stage-requires-clause-order c =
     let place = c.loop-place.place in
     let low = c.loop-place-test.true in
     let order_at =
-        at_place c.as_slice-orders.result.now c.args.paths.now.orders place (length c.args.own.now) (c.args.design.now.stages - 1) c.index-orders-place.result c.as_slice-orders.ensures c.requires.paths.orders.count c.requires.many low c.index-orders-place.is
-        ∙ ap Some (sym c.as_slice.ensures) in
+    at_place c.as_slice-orders.result.now c.args.paths.now.orders place (length c.args.own.now) (c.args.design.now.stages - 1) c.index-orders-place.result c.as_slice-orders.ensures c.requires.paths.orders.count c.requires.many low c.index-orders-place.is
+    ∙ ap Some (sym c.as_slice.ensures) in
     c.requires.paths.orders.each place c.as_slice.result.now order_at
 
 pub make_stage-requires-clause-stand : goal.make_stage-requires-clause-stand
@@ -44,8 +44,8 @@ make_stage-requires-clause-stand c =
     let place = c.loop-place.place in
     let low = c.loop-place-test.true in
     let order_at =
-        at_place c.as_slice-orders.result.now c.args.paths.now.orders place (length c.args.own.now) (c.args.design.now.stages - 1) c.index-orders-place.result c.as_slice-orders.ensures c.requires.paths.orders.count c.requires.many low c.index-orders-place.is
-        ∙ ap Some (sym c.as_slice.ensures) in
+    at_place c.as_slice-orders.result.now c.args.paths.now.orders place (length c.args.own.now) (c.args.design.now.stages - 1) c.index-orders-place.result c.as_slice-orders.ensures c.requires.paths.orders.count c.requires.many low c.index-orders-place.is
+    ∙ ap Some (sym c.as_slice.ensures) in
     let here : place ≤ place = omega arith in
     c.loop-place.invariant.rest place c.as_slice.result.now here order_at
 
@@ -75,8 +75,8 @@ loop-place-preserved c =
     let own_at = at_place c.args.own.now c.args.own.now place (length c.args.own.now) (c.args.design.now.stages - 1) c.index-own-place.result refl c.requires.many c.requires.many low c.index-own-place.is in
     let table_at = at_place c.as_slice-tables.result.now c.args.table.now.stages place (length c.args.own.now) (c.args.design.now.stages - 1) c.index-tables-place.result c.as_slice-tables.ensures c.requires.slots.count c.requires.many low c.index-tables-place.is in
     let order_at =
-        at_place c.as_slice-orders.result.now c.args.paths.now.orders place (length c.args.own.now) (c.args.design.now.stages - 1) c.index-orders-place.result c.as_slice-orders.ensures c.requires.paths.orders.count c.requires.many low c.index-orders-place.is
-        ∙ ap Some (sym c.as_slice.ensures) in
+    at_place c.as_slice-orders.result.now c.args.paths.now.orders place (length c.args.own.now) (c.args.design.now.stages - 1) c.index-orders-place.result c.as_slice-orders.ensures c.requires.paths.orders.count c.requires.many low c.index-orders-place.is
+    ∙ ap Some (sym c.as_slice.ensures) in
     let made : List ServedStage = c.loop-place.made.items in
     let s : ServedStage = c.in_ok-stage.stage in
     let h = c.loop-place.invariant in
@@ -88,7 +88,7 @@ loop-place-preserved c =
           let before : place ≤ k = omega (arith, le) in
           let unlike : place + 1 ≢ k + 1 = λ e. omega (arith, le, e) in
           stand_on c.args.design.now c.args.choices.now c.loop-place.out c.make_stage.new.out c.args.modules.now c.args.supplies.now (place + 1) (k + 1) c.as_slice.result.now order s.nodes.items c.requires.apart chain (c.requires.paths.orders.each k order at) unlike one.ports
-              one.serves (h.rest k order before at);
+          one.serves (h.rest k order before at);
       staged = subst (λ (l : List ServedStage). AreStaged c.args.design.now c.args.table.now.stages c.args.choices.now c.args.supplies.now c.args.paths.now.orders c.args.modules.now c.args.shared.now c.args.own.now c.args.out.now c.make_stage.new.out l) (sym c.in_ok-push.ensures.items)
           (staged_more c.args.design.now c.args.table.now.stages c.args.choices.now c.args.supplies.now c.args.paths.now.orders c.args.modules.now c.args.shared.now c.args.own.now c.args.out.now c.loop-place.out c.make_stage.new.out made place c.index-tables-place.result
           c.as_slice.result.now c.index-own-place.result s h.long table_at order_at own_at h.staged one);
