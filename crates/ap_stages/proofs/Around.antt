@@ -5,6 +5,7 @@ use Rattle.std.specs.List.{AllByRecursion as Each}
 use Rattle.std.specs.Option.{option_map}
 use Rattle.std.proofs.lemmas.Option.{same_Some, slice_get_within}
 use Rattle.ap_desc.proofs.OnePort.{each_as}
+use Rattle.ap_desc.specs.Chains.{IsNodeOf}
 use Rattle.ap_desc.specs.Clean.{IsClean}
 use Rattle.ap_desc.specs.declared.design.Design.{Design}
 use Rattle.ap_desc.specs.declared.design.Node.{Node as DesignNode}
@@ -17,11 +18,13 @@ use Rattle.ap_net.specs.declared.net.Instance.{Instance}
 use Rattle.ap_net.specs.Draft.{Draft, Extends, names_of}
 use Rattle.ap_net.specs.Modules.{ModuleText}
 use Rattle.ap_net.specs.Names.{AreDistinct, IsNew}
-use Rattle.ap_net.specs.Ready.{Dependence, ReadyAfter}
+use Rattle.ap_net.specs.Pending.{Among}
+use Rattle.ap_net.specs.Ready.{Dependence, ReadyAfter, numbers}
 use Rattle.ap_net.specs.Wiring.{taken_names}
 use Rattle.ap_net.proofs.Laws.{Extends-trans, stays}
 use Rattle.ap_pipe.specs.declared.table.StageSlots.{StageSlots}
-use Rattle.ap_ports.proofs.Members.{each_get, each_of}
+use Rattle.ap_ports.proofs.Added.{one_node}
+use Rattle.ap_ports.proofs.Members.{contains_at, each_get, each_of}
 use Rattle.ap_ports.specs.Numbers.{number_of_node}
 use Rattle.ap_signals.specs.NetRuns.{unit_part}
 use Rattle.ap_stage.specs.declared.chain.Node.{Node}
@@ -32,7 +35,7 @@ use Rattle.ap_stage.specs.Chained.{IsServedNode}
 use Rattle.ap_stage.specs.Reads.{IsNone}
 use Rattle.ap_stage.specs.Served.{IsReadyNode, names_placed, stage_names, stage_wires, wires_of}
 use Rattle.ap_stage.proofs.Listed.{each_both, each_found, each_left, each_right}
-use Rattle.ap_stages.specs.Around.{IsInNone, IsJoined, IsReadySupply, PlacedAreJoined, StagesAreReady, StagesLeaveNames, StagesLeaveNodes, StagesLeaveWires}
+use Rattle.ap_stages.specs.Around.{IsInNone, IsJoined, IsNameOfNone, IsReadySupply, NodesAreDriven, PlacedAreJoined, StagesAreReady, StagesLeaveNames, StagesLeaveNodes, StagesLeaveWires, UnusedAreInNone, UnusedAreUnnamed}
 use Rattle.ap_stages.specs.Onward.{IsLeft}
 use Rattle.ap_stages.specs.Stages.{AreStaged, all_nodes}
 use Rattle.ap_stages.specs.Stood.{AreApartSupplies, wires_with}
@@ -43,10 +46,13 @@ use Rattle.ap_stages.specs.declared.nodes.Supplied.{Supplied}
 use Rattle.ap_stages.specs.declared.nodes.Supply.{Supply}
 use Rattle.ap_stages.specs.declared.nodes.Supply.TheVariants as supply
 use Rattle.ap_stages.specs.declared.stage.ServedStage.{ServedStage}
+use Rattle.ap_stages.proofs.Begun.{some_at}
 use Rattle.ap_stages.proofs.Leaving.{left_by, names_each, node_at, wires_each}
-use Rattle.ap_stages.proofs.Names.{mapped_at}
+use Rattle.ap_stages.proofs.Making.{node_numbered}
+use Rattle.ap_stages.proofs.Names.{mapped_at, units_named_once}
 use Rattle.ap_stages.proofs.Onward.{others}
 use Rattle.ap_stages.proofs.Standing.{IsPartName, names_are, wires_are}
+use Rattle.ap_stages.proofs.Together.{wires_both}
 
 -- Ports of all stages. -----------------------------------------------------------------------------------------------------
 
@@ -58,11 +64,11 @@ each_flat P f (x ∷ xs) h = each_both P (f x) (flat_map f xs) (h 0 x refl) (eac
 each_port : (P : Node → Type 0) (stages : List ServedStage) → ((k : ℕ) (s : ServedStage) → slice_get stages k ≡ Some s → (j : ℕ) (n : Node) → slice_get s.nodes.items j ≡ Some n → P n) → Each P (all_nodes stages)
 each_port P stages h = each_flat P (λ (s : ServedStage). s.nodes.items) stages (λ k s at. each_of P s.nodes.items (λ j n there. h k s at j n there))
 
--- none of a stage's wires is one of each port's, nor is a name
-wires_in : (nodes : List Node) (w : Wire) → IsNone (stage_wires nodes) w → (j : ℕ) (n : Node) → slice_get nodes j ≡ Some n → IsNone (wires_of n) w
-wires_in [] w h j n at = absurd cc
-wires_in (m ∷ nodes) w h zero n at = subst (λ z. IsNone (wires_of z) w) (same_Some m n at) (each_left (λ (z : Wire). z.number ≢ w.number) (wires_of m) (stage_wires nodes) h)
-wires_in (m ∷ nodes) w h (suc j) n at = wires_in nodes w (each_right (λ (z : Wire). z.number ≢ w.number) (wires_of m) (stage_wires nodes) h) j n at
+-- what holds of a stage's wires holds of each port's; so it is with names
+in_node : (P : Wire → Type 0) (nodes : List Node) → Each P (stage_wires nodes) → (j : ℕ) (n : Node) → slice_get nodes j ≡ Some n → Each P (wires_of n)
+in_node P [] h j n at = absurd cc
+in_node P (m ∷ nodes) h zero n at = subst (λ z. Each P (wires_of z)) (same_Some m n at) (each_left P (wires_of m) (stage_wires nodes) h)
+in_node P (m ∷ nodes) h (suc j) n at = in_node P nodes (each_right P (wires_of m) (stage_wires nodes) h) j n at
 
 names_in : (nodes : List Node) (name : List ℕ) → IsNew name (stage_names nodes) → (j : ℕ) (n : Node) → slice_get nodes j ≡ Some n → IsNew name (names_placed n)
 names_in [] name h j n at = absurd cc
@@ -107,10 +113,10 @@ module _ (design : Design) (slots : List StageSlots) (choices : List Choice) (su
       each_get (λ m. IsNone (wires_of m) w) (all_nodes stages) i n (each_node (λ m. IsNone (wires_of m) w) (λ k order j y m has y_at for.
       subst (λ ws. IsNone ws w) (sym (wires_are design for.select y for.supply m for.made)) (supplied_of (λ s. IsNone (wires_with s) w) supplies (number_of_node y) for.supply each for.found))) at)
 
-  no_names : (name : List ℕ) → Each (λ (u : Resource). unit_part u ≢ name) design.units → IsNew name (stage_names (all_nodes stages))
-  no_names name each = names_each (λ other. other ≢ name) (all_nodes stages) (λ i n at.
+  no_names : (name : List ℕ) → IsNameOfNone design orders name → IsNew name (stage_names (all_nodes stages))
+  no_names name free = names_each (λ other. other ≢ name) (all_nodes stages) (λ i n at.
       each_get (λ m. Each (λ other. other ≢ name) (names_placed m)) (all_nodes stages) i n (each_node (λ m. Each (λ other. other ≢ name) (names_placed m)) (λ k order j y m has y_at for.
-      each_as (IsPartName design (number_of_node y)) (λ other. other ≢ name) (λ other part same. each_get (λ (u : Resource). unit_part u ≢ name) design.units (number_of_node y) part.unit each part.at (sym part.is ∙ same))
+      each_as (IsPartName design (number_of_node y)) (λ other. other ≢ name) (λ other part same. free (number_of_node y) part.unit part.at (sym part.is ∙ same) k order j y has y_at refl)
       (names_placed m) (names_are design for.select y for.supply m for.made))) at)
 
   module _ (clean : IsClean design) (apart : AreApartSupplies supplies) (x : DesignNode) (s : Supply) (found : supply_of supplies (number_of_node x) ≡ Some s) (nowhere : IsInNone orders x) where
@@ -122,7 +128,7 @@ module _ (design : Design) (slots : List StageSlots) (choices : List Choice) (su
     left_in : IsLeft design (all_nodes stages) x s
     left_in = record {
       wires = each_of (IsNone (stage_wires (all_nodes stages))) (wires_with s) (λ i w at. wires_each (λ (z : Wire). z.number ≢ w.number) (all_nodes stages) (λ l n there.
-          each_get (λ m. IsNone (wires_of m) w) (all_nodes stages) l n (each_port (λ m. IsNone (wires_of m) w) stages (λ k z has j m m_at. wires_in z.nodes.items w (each_get (IsNone (stage_wires z.nodes.items)) (wires_with s) i w (left_of k z has).wires at) j m m_at)) there));
+          each_get (λ m. IsNone (wires_of m) w) (all_nodes stages) l n (each_port (λ m. IsNone (wires_of m) w) stages (λ k z has j m m_at. in_node (λ (v : Wire). v.number ≢ w.number) z.nodes.items (each_get (IsNone (stage_wires z.nodes.items)) (wires_with s) i w (left_of k z has).wires at) j m m_at)) there));
       names = λ v u is u_at. names_each (λ name. name ≢ unit_part u) (all_nodes stages) (λ l n there.
           each_get (λ m. Each (λ name. name ≢ unit_part u) (names_placed m)) (all_nodes stages) l n (each_port (λ m. Each (λ name. name ≢ unit_part u) (names_placed m)) stages (λ k z has j m m_at. names_in z.nodes.items (unit_part u) ((left_of k z has).names v u is u_at) j m m_at)) there);
     }
@@ -134,12 +140,49 @@ pub stages_leave_wires : StagesLeaveWires
 stages_leave_wires design slots choices supplies orders modules shared owns old new stages staged w each late = staged.serves.serves.late w late (no_wires design slots choices supplies orders modules shared owns old new stages staged w each)
 
 pub stages_leave_names : StagesLeaveNames
-stages_leave_names design slots choices supplies orders modules shared owns old new stages staged name other each free =
-    staged.serves.serves.names name other (subst (IsNew name) (sym staged.serves.named) (no_names design slots choices supplies orders modules shared owns old new stages staged name each)) free
+stages_leave_names design slots choices supplies orders modules shared owns old new stages staged name other nowhere free =
+    staged.serves.serves.names name other (subst (IsNew name) (sym staged.serves.named) (no_names design slots choices supplies orders modules shared owns old new stages staged name nowhere)) free
 
 pub stages_leave_nodes : StagesLeaveNodes
 stages_leave_nodes design slots choices supplies orders modules shared owns old new stages staged clean apart cards x s found nowhere h =
     others design cards old new modules (all_nodes stages) x s staged.serves (left_in design slots choices supplies orders modules shared owns old new stages staged clean apart x s found nowhere) h
+
+pub unused : UnusedAreInNone
+unused design cards orders x fits are numbered none k order j y at there same =
+    let is_node : IsNodeOf design (k + 1) y = ((are.each k order at).nodes y).0 (contains_at order j y there) in
+    none (k + 1) (subst (IsNodeOf design (k + 1)) (one_node y x (node_numbered design cards (k + 1) y fits is_node) numbered same) is_node)
+
+pub unnamed : UnusedAreUnnamed
+unnamed design orders v u clean at nowhere w q q_at same = subst (λ n. IsInNone orders (design_node.Unit n)) (units_named_once design clean v w u q at q_at (sym same)) nowhere
+
+-- What is driven. ----------------------------------------------------------------------------------------------------------
+
+each_own : (wires : List Wire) → Each (λ (w : Wire). Among (numbers wires) w.number) wires
+each_own [] = tt
+each_own (w ∷ wires) = (inl refl, each_as (λ (v : Wire). Among (numbers wires) v.number) (λ (v : Wire). Among (numbers (w ∷ wires)) v.number) (λ v h. inr h) wires (each_own wires))
+
+in_stage : (P : Wire → Type 0) (stages : List ServedStage) → Each P (stage_wires (all_nodes stages)) → (k : ℕ) (s : ServedStage) → slice_get stages k ≡ Some s → Each P (stage_wires s.nodes.items)
+in_stage P [] h k s at = absurd cc
+in_stage P (x ∷ stages) h zero s at =
+    subst (λ (z : ServedStage). Each P (stage_wires z.nodes.items)) (same_Some x s at)
+    (each_left P (stage_wires x.nodes.items) (stage_wires (all_nodes stages)) (subst (Each P) (wires_both x.nodes.items (all_nodes stages)) h))
+in_stage P (x ∷ stages) h (suc k) s at = in_stage P stages (each_right P (stage_wires x.nodes.items) (stage_wires (all_nodes stages)) (subst (Each P) (wires_both x.nodes.items (all_nodes stages)) h)) k s at
+
+pub nodes_are_driven : NodesAreDriven
+nodes_are_driven design slots choices supplies orders modules shared owns old new stages staged long k order j x s at there found =
+    let low = slice_get_within orders k order at in
+    let (z, z_at) = some_at stages k (omega (arith, low, long)) in
+    let m = staged.each k z z_at in
+    let same : m.order ≡ order = same_Some m.order order (sym m.has_order ∙ at) in
+    let x_at : slice_get m.order j ≡ Some x = ap (λ o. slice_get o j) same ∙ there in
+    let inside = slice_get_within m.order j x x_at in
+    let many = m.staged.ports.long in
+    let (n, n_at) = some_at z.nodes.items j (omega (arith, inside, many)) in
+    let for = m.staged.ports.each j x n x_at n_at in
+    let is : for.supply ≡ s = same_Some for.supply s (sym for.found ∙ found) in
+    let all = stage_wires (all_nodes stages) in
+    let own = in_node (λ (w : Wire). Among (numbers all) w.number) z.nodes.items (in_stage (λ (w : Wire). Among (numbers all) w.number) stages (each_own all) k z z_at) j n n_at in
+    subst (λ (t : Supply). Each (λ (w : Wire). Among (numbers all) w.number) (wires_with t)) is (subst (Each (λ (w : Wire). Among (numbers all) w.number)) (wires_are design for.select x for.supply n for.made) own)
 
 -- The instances that were placed. ------------------------------------------------------------------------------------------
 

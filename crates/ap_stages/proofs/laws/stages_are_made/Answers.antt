@@ -1,4 +1,4 @@
-use Rattle.ap_stages.proofs.Around.{placed_are_joined, stages_are_ready, stages_leave_names, stages_leave_nodes, stages_leave_wires}
+use Rattle.ap_stages.proofs.Around.{nodes_are_driven, placed_are_joined, stages_are_ready, stages_leave_names, stages_leave_nodes, stages_leave_wires}
 use Rattle.ap_stages.proofs.laws.stages_are_made.Goals as goal
 
 pub returns-clause-ready : goal.returns-clause-ready
@@ -12,6 +12,9 @@ returns-clause-names c = λ design slots choices supplies orders modules shared 
 
 pub returns-clause-nodes : goal.returns-clause-nodes
 returns-clause-nodes c = λ design slots choices supplies orders modules shared owns old new stages staged clean apart cards x s found nowhere h. stages_leave_nodes design slots choices supplies orders modules shared owns old new stages staged clean apart cards x s found nowhere h
+
+pub returns-clause-driven : goal.returns-clause-driven
+returns-clause-driven c = λ design slots choices supplies orders modules shared owns old new stages staged long k order j x s at there found. nodes_are_driven design slots choices supplies orders modules shared owns old new stages staged long k order j x s at there found
 
 pub returns-clause-joined : goal.returns-clause-joined
 returns-clause-joined c = λ design slots choices supplies orders modules shared owns old new later stages staged onward kept. placed_are_joined design slots choices supplies orders modules shared owns old new later stages staged onward kept
