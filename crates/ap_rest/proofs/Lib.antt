@@ -1,0 +1,3 @@
+pub mod IdleOne
+pub mod IdleAll
+pub mod Listed

@@ -1,1 +1,3 @@
 pub mod Uses
+pub mod Idle
+pub mod Reads

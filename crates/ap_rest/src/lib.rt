@@ -2,8 +2,8 @@
 //! outputs at which a memory would be written.
 #![tactic(auto)]
 
-
-
+pub mod idle;
+pub mod reads;
 pub mod uses;
 
 pub use ap_bits::NoMemory;
