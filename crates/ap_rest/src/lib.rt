@@ -3,6 +3,7 @@
 #![tactic(auto)]
 
 pub mod idle;
+pub mod laws;
 pub mod reads;
 pub mod uses;
 
