@@ -1,5 +1,5 @@
 -- Each index is driven by a stage, or always 0.
-use Rattle.std.proofs.Common.{◌≡◌, ℕ, zero, suc, ◌+◌, ◌-◌, ◌≤◌, ◌<◌, Bool, true, false, List, [], ◌∷◌, ◌++◌, Some, flat_map, length, refl, sym, ap, subst, ◌∙◌, arith, inl, inr}
+use Rattle.std.proofs.Common.{◌≡◌, ℕ, zero, suc, ◌+◌, ◌*◌, ◌-◌, ◌≤◌, ◌<◌, Bool, true, false, List, [], ◌∷◌, ◌++◌, Some, flat_map, length, refl, sym, ap, subst, ◌∙◌, arith, inl, inr}
 use Rattle.std.specs.Prelude.{◌⊎◌, slice_get}
 use Rattle.std.specs.List.{AllByRecursion as Each}
 use Rattle.std.proofs.lemmas.Option.{same_Some, slice_get_within}
@@ -111,7 +111,7 @@ module _ (by : Dependence) (design : Design) (d : Draft) (driven : List ℕ) whe
       let here : file + 0 ≡ file = omega arith in
       All-join (IsServed by d driven) (numbers n.indices) (flat_map (λ (m : FileNets). numbers m.indices) files)
       (indices_served file 0 n.indices (All-front (IsAtRest d) (idle_indices design file 0 n.indices) (idle_of_files design (file + 1) files) rest)
-      (λ i w at e. used 0 i n w refl at (ap (λ k. is_port_used design (file_read k i)) here ∙ e)))
+      (λ i w at e. let plain : i ≡ 0 + i = omega arith in used 0 i n w refl at (ap (λ k. is_port_used design (file_read k i)) here ∙ ap (λ k. is_port_used design (file_read file k)) plain ∙ e)))
       (files_served (file + 1) files (All-back (IsAtRest d) (idle_indices design file 0 n.indices) (idle_of_files design (file + 1) files) rest)
       (λ k i nets w at in_it e. let next : file + suc k ≡ file + 1 + k = omega arith in used (suc k) i nets w at in_it (ap (λ m. is_port_used design (file_read m i)) next ∙ e)))
 
@@ -129,6 +129,6 @@ module _ (by : Dependence) (design : Design) (d : Draft) (driven : List ℕ) whe
 
 pub reads_are_served : ReadsAreServed
 reads_are_served by design d files mems driven rest used = record {
-  indices = files_served by design d driven 0 files (All-front (IsAtRest d) (idle_of_files design 0 files) (idle_of_mems design 0 mems) rest) (λ k i nets w at in_it e. used (design_node.FileRead k i) w (nets, at, in_it) e);
-  reads = mems_served by design d driven 0 mems (All-back (IsAtRest d) (idle_of_files design 0 files) (idle_of_mems design 0 mems) rest) (λ k m at e. used (design_node.MemRead k) m.read_address (m, at, refl) e);
+  indices = files_served by design d driven 0 files (All-front (IsAtRest d) (idle_of_files design 0 files) (idle_of_mems design 0 mems) rest) (λ k i nets w at in_it e. let plain : k ≡ 0 + k = omega arith in used (design_node.FileRead k i) w (nets, at, in_it) (ap (λ n. is_port_used design (file_read n i)) plain ∙ e));
+  reads = mems_served by design d driven 0 mems (All-back (IsAtRest d) (idle_of_files design 0 files) (idle_of_mems design 0 mems) rest) (λ k m at e. let plain : k ≡ 0 + k = omega arith in used (design_node.MemRead k) m.read_address (m, at, refl) (ap (λ n. is_port_used design (mem_read n)) plain ∙ e));
 }

@@ -14,7 +14,7 @@ use Rattle.ap_desc.specs.declared.design.Micro.{Micro}
 use Rattle.ap_model.specs.declared.storage.WritePort.TheVariants as port
 use Rattle.ap_model.specs.Ports.{is_used, writes_through}
 use Rattle.ap_net.specs.Draft.{Draft}
-use Rattle.ap_net.specs.Outside.{MemShape, mem_name, output}
+use Rattle.ap_net.specs.Outside.{mem_name, output}
 use Rattle.ap_net.proofs.Lists.{All-back, All-front}
 use Rattle.ap_signals.specs.DesignOutside.{mem_shape}
 use Rattle.ap_ctl.specs.Lists.{EachPair}
@@ -74,7 +74,8 @@ pair_at d (m ∷ mems) (p ∷ ports) h (suc k) lt = pair_at d mems ports h.1 k (
 pub idle_memories_are_off : PortsAreNets → RestsAreOff → IdleMemoriesAreOff
 idle_memories_are_off nets off design p old a d rests grows has mem low unused =
     let (m, ports, at, there, are) = pair_at d design.mems p.mems has.mems mem low in
-    let none : is_port_used design (mem_write mem) ≡ false = any_same mem (micros_in design) ∙ unused in
+    let plain : 0 + mem ≡ mem = omega arith in
+    let none : is_port_used design (mem_write (0 + mem)) ≡ false = ap (λ n. is_port_used design (mem_write n)) plain ∙ any_same mem (micros_in design) ∙ unused in
     let enable = rest_later grows (rests_at design a 0 p.mems mem ports there none rests.rest) in
     let named : mem_name (option_map_or mem_shape (slice_get design.mems mem) (record { name = []; address = 0; width = 0 })) (codes "we") ≡ mem_name (mem_shape m) (codes "we") =
     ap (λ (o : Option Mem). mem_name (option_map_or mem_shape o (record { name = []; address = 0; width = 0 })) (codes "we")) at in
