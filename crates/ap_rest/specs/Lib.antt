@@ -1,0 +1,6 @@
+pub mod Uses
+pub mod Idle
+pub mod Reads
+pub mod Serving
+pub mod Fitting
+pub mod Memories
