@@ -1,7 +1,6 @@
 -- What follows from writes and transfer: for the border, and for the order in which nets are ready.
 use Rattle.std.proofs.Common.{◌≡◌, ◌≢◌, ℕ, zero, suc, ◌+◌, ◌-◌, ◌≤◌, ◌<◌, Bool, true, false, if◌then◌else◌, List, [], ◌∷◌, ◌++◌, flat_map, length, map, Some, inl, inr, refl, sym, ap, subst, ◌∙◌, append-nil, arith}
-use Rattle.std.specs.Prelude.{nat_le, slice_get}
-use Rattle.std.proofs.lemmas.Bool.{and_parts}
+use Rattle.std.specs.Prelude.{slice_get}
 use Rattle.std.specs.List.{AllByRecursion as Each}
 use Rattle.ap_desc.proofs.Members.{In}
 use Rattle.ap_desc.specs.Clean.{IsClean}
@@ -42,6 +41,7 @@ use Rattle.ap_act.specs.Acting.{IsPortWritten, WritesAll, acting}
 use Rattle.ap_act.specs.Follow.{HaveInstrs, RestFollows, ShowFires, ShowValid, TransferIsMade, TransferIsReady, WritesAreMade, WritesAreReady, group_numbers, mem_write}
 use Rattle.ap_act.specs.Outputs.{IsOutputOf, group_outputs, mem_outputs, output_numbers, shown_outputs, written_mems}
 use Rattle.ap_act.specs.Taken.{TakesTransfer}
+use Rattle.ap_act.proofs.Lines.{branch_within}
 use Rattle.ap_act.proofs.Named.{outputs_are_named}
 use Rattle.ap_act.proofs.HasOutputs.{output_of}
 
@@ -49,7 +49,7 @@ use Rattle.ap_act.proofs.HasOutputs.{output_of}
 
 each_one : {X : Type 0} (P : X → Type 0) (xs : List X) (x : X) → Each P xs → In x xs → P x
 each_one P [] x h k = absurd k
-each_one P (y ∷ xs) x h (inl e) = subst P e h.0
+each_one P (y ∷ xs) x h (inl e) = subst P (sym e) h.0
 each_one P (y ∷ xs) x h (inr k) = each_one P xs x h.1 k
 
 -- the writes through one port, in its stage
@@ -81,8 +81,7 @@ writes_are_made stand show design p old new d modules given nets stages clean po
 
 pub transfer_is_made : TransferStands → TransferIsMade
 transfer_is_made stand design old new d modules given nets stages target clean h e instrs valid s at =
-    let branch = and_parts (nat_le 1 design.branch) (nat_le design.branch (design.stages - 1)) ((clean.sound).within).branch in
-    let low : 1 ≤ design.branch = le-leb design.branch branch.0 in
+    let low : 1 ≤ design.branch = (branch_within design clean).0 in
     let stage : 1 + (design.branch - 1) ≡ design.branch = omega (arith, low) in
     let there : Shows design given nets.valid d (λ look. look.valid design.branch) h.bit =
     subst (λ k. Shows design given nets.valid d (λ look. look.valid k) h.bit) stage (EachFrom-at (λ k. Shows design given nets.valid d (λ look. look.valid k)) 1 nets.valid valid (design.branch - 1) h.bit h.bit_at) in
@@ -114,7 +113,7 @@ groups_follow by d base groups h = each_flat_map (Follows by d base) group_numbe
 mems_follow : (by : Dependence) (design : Design) (d : Draft) (base : List ℕ) (n : ℕ) (mems : List MemPorts) → Each (IsDone by d base) (written_mems design n mems)
     → ((k : ℕ) (m : MemPorts) → slice_get mems k ≡ Some m → is_used design (port.Memory (n + k)) ≡ false → Each (Follows by d []) (mem_write m)) → Each (Follows by d base) (flat_map mem_write mems)
 mems_follow by design d base n [] h rest = tt
-mems_follow by design d base n (m ∷ mems) h rest = go (is_used design (port.Memory n)) refl h
+mems_follow by design d base n (m ∷ mems) h rest = go (is_used design (port.Memory n)) refl h (λ each. mems_follow by design d base (n + 1) mems each others)
   where
     here : n + 0 ≡ n
     here = omega arith
@@ -122,14 +121,15 @@ mems_follow by design d base n (m ∷ mems) h rest = go (is_used design (port.Me
     others : (k : ℕ) (x : MemPorts) → slice_get mems k ≡ Some x → is_used design (port.Memory (n + 1 + k)) ≡ false → Each (Follows by d []) (mem_write x)
     others k x at off = let next : n + 1 + k ≡ n + suc k = omega arith in rest (suc k) x at (subst (λ j. is_used design (port.Memory j) ≡ false) next off)
 
-    go : (b : Bool) → is_used design (port.Memory n) ≡ b → Each (IsDone by d base) (if b then mem_outputs n m ∷ written_mems design (n + 1) mems else written_mems design (n + 1) mems) → Each (Follows by d base) (flat_map mem_write (m ∷ mems))
-    go true on h =
+    go : (b : Bool) → is_used design (port.Memory n) ≡ b → Each (IsDone by d base) (if b then mem_outputs n m ∷ written_mems design (n + 1) mems else written_mems design (n + 1) mems)
+        → (Each (IsDone by d base) (written_mems design (n + 1) mems) → Each (Follows by d base) (flat_map mem_write mems)) → Each (Follows by d base) (flat_map mem_write (m ∷ mems))
+    go true on h more =
         let three = follow by d base (output_numbers (mem_outputs n m)) h.0 in
-        (three.0, (three.1.1.0, (three.1.0, mems_follow by design d base (n + 1) mems h.1 others)))
-    go false off h =
+        (three.0, (three.1.1.0, (three.1.0, more h.1)))
+    go false off h more =
         All-join (Follows by d base) (mem_write m) (flat_map mem_write mems)
         (from_nothing by d base (mem_write m) (rest 0 m refl (subst (λ j. is_used design (port.Memory j) ≡ false) (sym here) off)))
-        (mems_follow by design d base (n + 1) mems h others)
+        (more h)
 
 pub writes_are_ready : WritesAreReady
 writes_are_ready by design fires stages p old new h = record {

@@ -35,7 +35,7 @@ each_member {X} (x ∷ xs) = (inl refl, All-from (λ y. In y xs) (λ y. In y (x 
 
 in_filter : {X : Type 0} (t : X → Bool) (xs : List X) (x : X) → In x xs → t x ≡ true → In x (filter t xs)
 in_filter t [] x h on = absurd h
-in_filter {X} t (y ∷ xs) x (inl e) on = go (t y) (ap t e ∙ on)
+in_filter {X} t (y ∷ xs) x (inl e) on = go (t y) (sym (ap t e) ∙ on)
   where
     go : (b : Bool) → b ≡ true → In x (if b then y ∷ filter t xs else filter t xs)
     go true q = inl e
@@ -53,11 +53,11 @@ in_reverse (y ∷ xs) x (inr h) = subst (In x) (sym (reverse_onto xs y [])) (in_
 
 in_range : (k a n : ℕ) → a ≤ k → k < a + n → In k (range_with_len a n)
 in_range k a zero low high = absurd (omega arith)
-in_range k a (suc n) low high = go (a == k) refl
+in_range k a (suc n) low high = go (a == k) refl (λ l. in_range k (a + 1) n l (omega arith))
   where
-    go : (b : Bool) → (a == k) ≡ b → In k (range_with_len a (suc n))
-    go true e = inl (eqb-true a k e)
-    go false e = let other : a ≡ k → ⊥ = eqb-false a k e in inr (in_range k (a + 1) n (above a k low other) (omega arith))
+    go : (b : Bool) → (a == k) ≡ b → (a + 1 ≤ k → In k (range_with_len (a + 1) n)) → In k (range_with_len a (suc n))
+    go true e rest = inl (sym (eqb-true a k e))
+    go false e rest = let other : a ≡ k → ⊥ = eqb-false a k e in inr (rest (above a k low other))
       where
         above : (i j : ℕ) → i ≤ j → (i ≡ j → ⊥) → i + 1 ≤ j
         above i j le ne = pick (cases_lt i j)
@@ -73,7 +73,7 @@ HasOutput outputs q = (o : PortOutputs) × In o outputs × (o.port ≡ q)
 in_pair : (design : Design) (d : Draft) (ps : List WritePort) (groups : List GroupPorts) (q : WritePort) → EachPair (ArePortsOf design d) ps groups → In q ps → HasOutput (map group_outputs groups) q
 in_pair design d [] groups q h k = absurd k
 in_pair design d (p ∷ ps) [] q h k = absurd h
-in_pair design d (p ∷ ps) (g ∷ groups) q h (inl e) = (group_outputs g, inl refl, (h.0).of ∙ e)
+in_pair design d (p ∷ ps) (g ∷ groups) q h (inl e) = (group_outputs g, inl refl, (h.0).of ∙ sym e)
 in_pair design d (p ∷ ps) (g ∷ groups) q h (inr k) = let r = in_pair design d ps groups q h.1 k in (r.0, inr r.1, r.2)
 
 in_written : (design : Design) (d : Draft) (n k : ℕ) (mems : List Mem) (ps : List MemPorts) → EachPair (AreMemPorts d) mems ps → k < length mems → is_used design (port.Memory (n + k)) ≡ true → HasOutput (written_mems design n ps) (port.Memory (n + k))

@@ -1,9 +1,11 @@
 -- The stage whose lines write through a port has such lines, and few.
-use Rattle.std.proofs.Common.{◌≡◌, ◌≢◌, ℕ, zero, suc, ◌+◌, ◌-◌, ◌<◌, ◌≤◌, ◌==◌, ◌&&◌, ◌||◌, Bool, true, false, if◌then◌else◌, List, [], ◌∷◌, ◌++◌, flat_map, length, filter_map, Option, Some, None, refl, sym, ap, subst, ◌∙◌, arith}
-use Rattle.std.specs.Prelude.{find, not, option_and_then}
-use Rattle.std.specs.List.{AllByRecursion as Each, cons_option, enumerate_from, list_any}
-use Rattle.std.proofs.lemmas.Bool.{and_parts}
+use Rattle.std.proofs.Common.{◌≡◌, ◌≢◌, ℕ, zero, suc, ◌+◌, ◌-◌, ◌<◌, ◌≤◌, ◌==◌, ◌&&◌, ◌||◌, Bool, true, false, if◌then◌else◌, List, [], ◌∷◌, ◌++◌, flat_map, length, filter_map, Option, Some, None, refl, inl, inr, sym, ap, subst, ◌∙◌, arith}
+use Rattle.std.specs.Prelude.{◌⊎◌, find, nat_le, not, option_and_then}
+use Rattle.std.specs.List.{AllByRecursion as Each, cons_option, enumerate_from, list_all, list_any}
+use Rattle.std.proofs.lemmas.Bool.{and_parts, cases_lt, leb-true}
 use Rattle.ap_desc.specs.Clean.{IsClean}
+use Rattle.ap_desc.specs.Designs.{is_instr_within, is_mem_within}
+use Rattle.ap_desc.specs.Limits.{max_address_bits, max_instructions, max_memories, min_address_bits}
 use Rattle.ap_desc.specs.Ports.{is_transfer, micros_in}
 use Rattle.ap_desc.specs.declared.design.Act.{Act}
 use Rattle.ap_desc.specs.declared.design.Act.TheVariants as act
@@ -125,3 +127,33 @@ is_used_by design p (suc s) h = used_somewhere design (suc s) p h.used ∙ go s
   where
     go : (n : ℕ) → true ≡ not (suc n == 0)
     go n = grind arith
+
+pub lines_use : (design : Design) (stage : ℕ) (p : WritePort) (lines : List PortLine) (b : Bool) → lines ≡ write_lines design stage p → (length lines == 0) ≡ b → is_used_in design stage p ≡ not b
+lines_use design stage p lines b is e = used_lines design stage p ∙ ap (λ (l : List PortLine). not (length l == 0)) (sym is) ∙ ap not e
+
+pub stage_more : (design : Design) (p : WritePort) (stage : ℕ) → ((other : ℕ) → 1 ≤ other → other < stage → is_used_in design other p ≡ false) → is_used_in design stage p ≡ false → (other : ℕ) → 1 ≤ other → other < stage + 1 → is_used_in design other p ≡ false
+stage_more design p stage before here other low high = go (cases_lt other stage)
+  where
+    go : (other < stage) ⊎ (stage ≤ other) → is_used_in design other p ≡ false
+    go (inl lt) = before other low lt
+    go (inr le) = let same : stage ≡ other = omega arith in subst (λ k. is_used_in design k p ≡ false) same here
+
+-- Limits of a clean design.
+
+pub instrs_few : (design : Design) → IsClean design → length design.instrs ≤ max_instructions
+instrs_few design clean = leb-true (length design.instrs) max_instructions (and_parts (nat_le (length design.instrs) max_instructions) (list_all (is_instr_within design.stages) design.instrs) clean.sound.within.instrs).0
+
+pub mems_few : (design : Design) → IsClean design → length design.mems ≤ max_memories
+mems_few design clean = leb-true (length design.mems) max_memories (and_parts (nat_le (length design.mems) max_memories) (list_all is_mem_within design.mems) clean.sound.within.mems).0
+
+pub branch_within : (design : Design) → IsClean design → (1 ≤ design.branch) × (design.branch ≤ design.stages - 1)
+branch_within design clean =
+    let parts = and_parts (nat_le 1 design.branch) (nat_le design.branch (design.stages - 1)) clean.sound.within.branch in
+    (leb-true 1 design.branch parts.0, leb-true design.branch (design.stages - 1) parts.1)
+
+pub address_within : (design : Design) → IsClean design → (1 ≤ design.address) × (design.address ≤ 64)
+address_within design clean =
+    let parts = and_parts (nat_le min_address_bits design.address) (nat_le design.address max_address_bits) clean.sound.within.address in
+    let low : min_address_bits ≤ design.address = leb-true min_address_bits design.address parts.0 in
+    let high : design.address ≤ max_address_bits = leb-true design.address max_address_bits parts.1 in
+    (omega (arith, low), omega (arith, high))

@@ -1,5 +1,5 @@
 //! The outputs of `top` at which is shown what lines write, port by port.
-ghost use Rattle.std.specs.Prelude.{◌≡◌, ◌≤◌, ◌++◌, IfOk, OnOk, length, map};
+ghost use Rattle.std.specs.Prelude.{◌≡◌, ◌≤◌, ◌++◌, ◌∷◌, [], IfOk, OnOk, length, map};
 ghost use Rattle.ap_desc.specs.Clean.{IsClean};
 ghost use Rattle.ap_act.specs.Outputs.{IsStageOf, group_outputs, mem_outputs, shown_outputs, written_mems};
 
@@ -71,6 +71,25 @@ fn add_groups(list: &mut Items<PortOutputs>, groups: &[GroupPorts]) -> Result<()
     Ok(())
 }
 
+/// Adds the outputs of a memory, where some line writes it.
+fn add_mem(
+    alloc: Global,
+    list: &mut Items<PortOutputs>,
+    design: &Design,
+    mem: u32,
+    ports: MemPorts,
+) -> Result<(), NoMemory>
+    requires clean { IsClean design.now }
+    ensures { OnOk result (list.new ≡ list.old ++ written_mems design.now mem (ports ∷ [])) }
+{
+    let stage = port_stage(alloc, design, WritePort::Memory(mem))?;
+    if stage == 0 {
+        return Ok(());
+    }
+    list.push(mem_outputs(mem, ports))?;
+    Ok(())
+}
+
 /// Adds the outputs of the memories that some line writes.
 fn add_mems(
     alloc: Global,
@@ -83,11 +102,7 @@ fn add_mems(
     ensures { OnOk result (list.new ≡ list.old ++ written_mems design.now 0 mems.now) }
 {
     for place in 0..mems.len() {
-        let mem = place as u32;
-        let stage = port_stage(alloc, design, WritePort::Memory(mem))?;
-        if stage != 0 {
-            list.push(mem_outputs(mem, mems[place]))?;
-        }
+        add_mem(alloc, list, design, place as u32, mems[place])?;
     }
     Ok(())
 }
