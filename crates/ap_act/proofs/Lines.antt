@@ -5,7 +5,7 @@ use Rattle.std.specs.List.{AllByRecursion as Each, cons_option, enumerate_from, 
 use Rattle.std.proofs.lemmas.Bool.{and_parts, cases_lt, leb-true}
 use Rattle.ap_desc.specs.Clean.{IsClean}
 use Rattle.ap_desc.specs.Designs.{is_instr_within, is_mem_within}
-use Rattle.ap_desc.specs.Limits.{max_address_bits, max_instructions, max_memories, min_address_bits}
+use Rattle.ap_desc.specs.Limits.{max_address_bits, min_address_bits}
 use Rattle.ap_desc.specs.Ports.{is_transfer, micros_in}
 use Rattle.ap_desc.specs.declared.design.Act.{Act}
 use Rattle.ap_desc.specs.declared.design.Act.TheVariants as act
@@ -121,13 +121,6 @@ pub stage_of_used : (design : Design) (p : WritePort) (stage : ℕ) → IsStageO
 stage_of_used design p zero h used = let clash : true ≡ false = sym used ∙ h in cc
 stage_of_used design p (suc s) h used = h
 
-pub is_used_by : (design : Design) (p : WritePort) (stage : ℕ) → IsStageOf design p stage → is_used design p ≡ not (stage == 0)
-is_used_by design p zero h = h
-is_used_by design p (suc s) h = used_somewhere design (suc s) p h.used ∙ go s
-  where
-    go : (n : ℕ) → true ≡ not (suc n == 0)
-    go n = grind arith
-
 pub lines_use : (design : Design) (stage : ℕ) (p : WritePort) (lines : List PortLine) (b : Bool) → lines ≡ write_lines design stage p → (length lines == 0) ≡ b → is_used_in design stage p ≡ not b
 lines_use design stage p lines b is e = used_lines design stage p ∙ ap (λ (l : List PortLine). not (length l == 0)) (sym is) ∙ ap not e
 
@@ -140,11 +133,11 @@ stage_more design p stage before here other low high = go (cases_lt other stage)
 
 -- Limits of a clean design.
 
-pub instrs_few : (design : Design) → IsClean design → length design.instrs ≤ max_instructions
-instrs_few design clean = leb-true (length design.instrs) max_instructions (and_parts (nat_le (length design.instrs) max_instructions) (list_all (is_instr_within design.stages) design.instrs) clean.sound.within.instrs).0
+pub instrs_few : (design : Design) → IsClean design → length design.instrs ≤ 256
+instrs_few design clean = leb-true (length design.instrs) 256 (and_parts (nat_le (length design.instrs) 256) (list_all (is_instr_within design.stages) design.instrs) clean.sound.within.instrs).0
 
-pub mems_few : (design : Design) → IsClean design → length design.mems ≤ max_memories
-mems_few design clean = leb-true (length design.mems) max_memories (and_parts (nat_le (length design.mems) max_memories) (list_all is_mem_within design.mems) clean.sound.within.mems).0
+pub mems_few : (design : Design) → IsClean design → length design.mems ≤ 4
+mems_few design clean = leb-true (length design.mems) 4 (and_parts (nat_le (length design.mems) 4) (list_all is_mem_within design.mems) clean.sound.within.mems).0
 
 pub branch_within : (design : Design) → IsClean design → (1 ≤ design.branch) × (design.branch ≤ design.stages - 1)
 branch_within design clean =
@@ -157,3 +150,11 @@ address_within design clean =
     let low : min_address_bits ≤ design.address = leb-true min_address_bits design.address parts.0 in
     let high : design.address ≤ max_address_bits = leb-true design.address max_address_bits parts.1 in
     (omega (arith, low), omega (arith, high))
+
+pub unused_at : (design : Design) (p : WritePort) (stage : ℕ) → IsStageOf design p stage → stage ≡ 0 → is_used design p ≡ false
+unused_at design p zero h e = h
+unused_at design p (suc s) h e = absurd (omega (arith, e))
+
+pub used_at : (design : Design) (p : WritePort) (stage : ℕ) → IsStageOf design p stage → stage ≢ 0 → is_used design p ≡ true
+used_at design p zero h e = absurd (e refl)
+used_at design p (suc s) h e = used_somewhere design (suc s) p h.used

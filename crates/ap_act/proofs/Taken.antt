@@ -1,5 +1,6 @@
 -- The transfer, where lines make one and where none does.
-use Rattle.std.proofs.Common.{◌≡◌, ℕ, ◌+◌, ◌-◌, ◌≤◌, ◌==◌, ◌&&◌, Bool, true, false, List, [], ◌∷◌, ◌++◌, length, map, Some, inl, inr, refl, sym, ap, subst, ◌∙◌, arith}
+use Rattle.std.proofs.lemmas.Bool.{eqb-true}
+use Rattle.std.proofs.Common.{◌≡◌, ℕ, suc, ◌+◌, ◌-◌, ◌≤◌, ◌==◌, ◌&&◌, Bool, true, false, List, [], ◌∷◌, ◌++◌, length, map, Some, inl, inr, refl, sym, ap, subst, ◌∙◌, arith}
 use Rattle.std.specs.Prelude.{slice_get}
 use Rattle.std.specs.List.{AllByRecursion as Each, list_any}
 use Rattle.ap_desc.specs.declared.design.Design.{Design}
@@ -94,3 +95,16 @@ takes design valid stages taken a b c s bit made fresh at bit_at h from makes jo
       taken_ready = λ by. copy_ready by base (bit.number ∷ stage_numbers s) a b c made.taken.number taken (record { reads = from.reads; results = tt }) from.results.0 e among (joins.copy.came by);
       target_ready = λ by later f each. ready_from by (bit.number ∷ stage_numbers s) a b made.target.number from.reads from.results.1.0 later (Extends-trans b c later e f) (among (Ready by later) each);
     }
+
+-- The lines of the transfer.
+
+pub lines_there : (lines : List PortLine) → (length lines == 0) ≡ false → 1 ≤ length lines
+lines_there [] e = cc
+lines_there (l ∷ lines) e = omega arith
+
+pub no_lines : (lines : List PortLine) → (length lines == 0) ≡ true → lines ≡ []
+no_lines [] e = refl
+no_lines (l ∷ lines) e = absurd (go (length lines) e)
+  where
+    go : (n : ℕ) → (suc n == 0) ≡ true → ⊥
+    go n q = let z : suc n ≡ 0 = eqb-true (suc n) 0 q in omega (arith, z)

@@ -4,6 +4,7 @@ use Rattle.std.specs.Prelude.{option_map, option_to_list, slice_get}
 use Rattle.std.specs.List.{AllByRecursion as Each}
 use Rattle.ap_desc.specs.declared.design.Design.{Design}
 use Rattle.ap_model.specs.declared.storage.WritePort.{WritePort}
+use Rattle.ap_model.specs.declared.storage.WritePort.TheVariants as port
 use Rattle.ap_model.specs.Fitting.{port_width}
 use Rattle.ap_net.specs.declared.cell.Wire.{Wire}
 use Rattle.ap_net.specs.Draft.{CanFresh, Draft, Extends}
@@ -13,7 +14,7 @@ use Rattle.ap_net.specs.Ready.{Dependence, numbers}
 use Rattle.ap_net.specs.Wiring.{NoneTwice}
 use Rattle.ap_net.proofs.Laws.{Extends-refl, Extends-trans}
 use Rattle.ap_net.proofs.Lists.{All-from, All-join}
-use Rattle.ap_ctl.proofs.Beside.{take_item}
+use Rattle.ap_ctl.proofs.Beside.{no_wire, take_item}
 use Rattle.ap_merge.specs.Selects.{GoesOver}
 use Rattle.ap_stage.specs.declared.node.Course.{Course}
 use Rattle.ap_stage.specs.declared.source.Ground.{Ground}
@@ -32,10 +33,17 @@ use Rattle.ap_commit.specs.Written.{CanWritePort, IsWritten}
 use Rattle.ap_slow.specs.Driven.{DrivesLate}
 use Rattle.ap_slow.proofs.DrivenOne.{drives_from, drives_more, drives_none}
 use Rattle.ap_act.specs.declared.outputs.PortOutputs.{PortOutputs}
-use Rattle.ap_act.specs.Acting.{IsPortWritten, IsUsedPort, StageCanAct, WritesAll, acting, stage_numbers}
+use Rattle.ap_act.specs.Acting.{CanAct, IsPortWritten, IsUsedPort, StageCanAct, WritesAll, acting, stage_numbers}
 use Rattle.ap_act.specs.Outputs.{IsSized, StageWrites, all_numbers, output_numbers}
 use Rattle.ap_act.proofs.Lists.{flat_more}
 use Rattle.ap_act.proofs.Steps.{acting_in, joined_ready, makes_drive, ready_later, wires_drive}
+
+abbrev pub no_outputs : PortOutputs
+no_outputs = record { port = port.Register 0; to = record { enable = no_wire; index = None; value = no_wire } }
+
+-- what the stage of a number has
+pub stage_can : (design : Design) (d : Draft) (bits : List Wire) (stages : List ServedStage) (stage : ℕ) (s : ServedStage) → CanAct design d bits stages → 1 ≤ stage → slice_get stages (stage - 1) ≡ Some s → StageCanAct design d stage s
+stage_can design d bits stages stage s can low at = let same : stage - 1 + 1 ≡ stage = omega (arith, low) in subst (λ k. StageCanAct design d k s) same (can.each (stage - 1) s at)
 
 -- the lines of the stage can write through the port
 pub can_write : (design : Design) (d : Draft) (stage : ℕ) (s : ServedStage) (o : PortOutputs) (used : UsedPort) → StageCanAct design d stage s → IsSized design o → IsUsedPort design stage o used
