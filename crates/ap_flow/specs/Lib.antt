@@ -1,0 +1,4 @@
+pub mod Left
+pub mod Flowing
+pub mod Followed
+pub mod Served
