@@ -4,3 +4,4 @@ pub mod Coming
 pub mod Flowing
 pub mod Followed
 pub mod Served
+pub mod Border

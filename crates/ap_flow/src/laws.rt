@@ -1,6 +1,10 @@
 //! Laws of the definitions. They do nothing: their contracts are what they say.
+ghost use Rattle.ap_flow.specs.Border.{FlowsGiveFront, FlowsLeave};
 ghost use Rattle.ap_flow.specs.Followed.{FlowsFollow};
 ghost use Rattle.ap_flow.specs.Served.{StagesCanLeave, StagesHaveInstrs};
+
+use ap_commit::laws::leaving_stands;
+use ap_whole::laws::homes_are_found;
 
 /// A stage that was served has the instructions of the design, where its conditions tell which of them its word matches, and the net of each
 /// local that is live into the stage after it.
@@ -14,3 +18,16 @@ pub fn stages_can_leave()
 pub fn flows_follow()
     ensures { FlowsFollow }
 {}
+
+/// With control, the pc and the registers of the stages are the front of a finished `top`, whatever was built further on.
+pub fn flows_give_the_front()
+    ensures { FlowsGiveFront }
+{}
+
+/// What the instructions of each stage leave is what a whole processor has of the stage.
+pub fn flows_leave()
+    ensures { FlowsLeave }
+{
+    leaving_stands();
+    homes_are_found();
+}
