@@ -37,10 +37,10 @@ pub more_left : (slots : List StageSlots) (stages : List ServedStage) (locals : 
 more_left slots stages locals s list h at one place t l p1 p2 =
     let n : ℕ = length locals in
     ⊎_elim (λ old. h place t l p1 old) (λ q.
-        let same : s ≡ t = some_same (sym at ∙ ap (slice_get slots) (sym q.0) ∙ p1) in
-        let here : EachPair (IsLeavingOf (courses_of stages n)) t.homes list = subst (λ (x : StageSlots). EachPair (IsLeavingOf (courses_of stages n)) x.homes list) same one in
-        let all : EachPair (IsLeavingOf (courses_of stages n)) t.homes l = subst (EachPair (IsLeavingOf (courses_of stages n)) t.homes) (sym q.1) here in
-        subst (λ k. EachPair (IsLeavingOf (courses_of stages k)) t.homes l) (sym q.0) all) (one_more locals list place l p2)
+    let same : s ≡ t = some_same (sym at ∙ ap (slice_get slots) (sym q.0) ∙ p1) in
+    let here : EachPair (IsLeavingOf (courses_of stages n)) t.homes list = subst (λ (x : StageSlots). EachPair (IsLeavingOf (courses_of stages n)) x.homes list) same one in
+    let all : EachPair (IsLeavingOf (courses_of stages n)) t.homes l = subst (EachPair (IsLeavingOf (courses_of stages n)) t.homes) (sym q.1) here in
+    subst (λ k. EachPair (IsLeavingOf (courses_of stages k)) t.homes l) (sym q.0) all) (one_more locals list place l p2)
 
 -- where no stage is before there are no homes, and nothing is left
 pub none_before : (stages : List ServedStage) (homes : List Home) → Each (CanLeave (courses_of stages 0)) homes → EachPair (IsLeavingOf (courses_of stages 0)) homes []

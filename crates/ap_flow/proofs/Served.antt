@@ -111,10 +111,10 @@ module _ (design : Design) (instr : Instr) (good : IsGood design instr) (stage i
       let uses = any_weaker (λ (m : Micro). not (nat_lt m.stage (stage + 1)) && looks_at i m) (λ (m : Micro). not (nat_lt m.stage stage) && looks_at i m) looked instr.micros two.1 in
       ⊎_elim
       (λ before_it.
-          let count_all = all_before stage made.earlier made.line made.rest sorted before_it in
-          let same_all = ap (λ ms. count (before stage ms)) all in
-          let below : i < count (before stage instr.micros) = omega (arith, count_all, same_all, number, assigns) in
-          inr (and_from _ _ (ap (nat_lt i) (widths_count design instr (lines_before stage instr)) ∙ lt-ltb i (count (before stage instr.micros)) below) uses))
+      let count_all = all_before stage made.earlier made.line made.rest sorted before_it in
+      let same_all = ap (λ ms. count (before stage ms)) all in
+      let below : i < count (before stage instr.micros) = omega (arith, count_all, same_all, number, assigns) in
+      inr (and_from _ _ (ap (nat_lt i) (widths_count design instr (lines_before stage instr)) ∙ lt-ltb i (count (before stage instr.micros)) below) uses))
       (λ from_it. ⊎_elim (λ above. absurd (not_late (omega (arith, above)))) (λ below. inl (made.line, found, omega (arith, from_it, below))) (cases_lt stage made.line.stage)) (cases_lt made.line.stage stage)
 
 -- a local that a line of the stage makes has its net
@@ -169,8 +169,8 @@ stages_can_leave design cards stage table choices supplies order modules shared 
         let of : IsCourseOf design stage instr c.0 = record { scope = same.scope ∙ is.of.scope; lines = same.lines ∙ is.of.lines; uses = same.uses ∙ is.of.uses } in
         let full : IsFull c.0 = All-at IsFull courses k c.0 h.all.full c.1 in
         let has : HasNet (c.0).row.items (arg.Local home.local) = ⊎_elim (λ m. made_has design cards k instr fits e stage c.0 of full home.local m.0 m.1 m.2)
-            (λ l. (let local = is.live home.local l in ((local.has).net, same.keeps.kept home.local (local.has).net (subst (λ n. slice_get (f.0).row.items n ≡ Some (Some (local.has).net)) local.local (local.has).at))))
-            (made_or_live design instr (good_at design cards k instr fits e) stage home.local live) in
+        (λ l. (let local = is.live home.local l in ((local.has).net, same.keeps.kept home.local (local.has).net (subst (λ n. slice_get (f.0).row.items n ≡ Some (Some (local.has).net)) local.local (local.has).at))))
+        (made_or_live design instr (good_at design cards k instr fits e) stage home.local live) in
         record { course = c.0; at = c.1; net = has.0; has = has.1 }
 
 -- The instructions.

@@ -37,7 +37,7 @@ drive_stages-requires c =
     (record {
       fresh = c.requires.fresh;
       stages =
-      can_drive c.args.design.now c.args.out.now c.args.slots.now c.args.registers.now c.args.ports.now c.args.control.now c.args.target stages c.rules.ensures c.requires.slots c.requires.can c.requires.clean c.args.hold c.requires.hold locals left comings come;
+          can_drive c.args.design.now c.args.out.now c.args.slots.now c.args.registers.now c.args.ports.now c.args.control.now c.args.target stages c.rules.ensures c.requires.slots c.requires.can c.requires.clean c.args.hold c.requires.hold locals left comings come;
     })
 
 pub returns : goal.returns
