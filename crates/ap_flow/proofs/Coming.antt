@@ -1,5 +1,5 @@
 -- What comes to the stages fits their registers.
-use Rattle.std.proofs.Common.{◌≡◌, ℕ, zero, suc, ◌+◌, ◌<◌, ◌≤◌, List, [], ◌∷◌, length, flat_map, map, Option, Some, refl, sym, ap, subst, ◌∙◌, arith}
+use Rattle.std.proofs.Common.{◌≡◌, ℕ, zero, suc, ◌+◌, List, [], ◌∷◌, map, Some, refl, sym, ap, subst, ◌∙◌, arith}
 use Rattle.std.specs.Prelude.{Contains, slice_get, slice_index, unwrap_or}
 use Rattle.std.specs.List.{AllByRecursion as Each}
 use Rattle.std.proofs.lemmas.Option.{slice_get_within}
@@ -16,7 +16,6 @@ use Rattle.ap_pipe.specs.Slots.{AreSlotsOf}
 use Rattle.ap_signals.specs.NetSignals.{by_stage}
 use Rattle.ap_ctl.specs.declared.nets.ControlNets.{ControlNets}
 use Rattle.ap_ctl.specs.Building.{IsBit}
-use Rattle.ap_ctl.specs.Lists.{EachPair}
 use Rattle.ap_flight.specs.declared.entry.Leaving.{Leaving}
 use Rattle.ap_flight.specs.declared.stage.Coming.{Coming}
 use Rattle.ap_flight.specs.declared.stage.StageRegisters.{StageRegisters}

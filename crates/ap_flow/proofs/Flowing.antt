@@ -1,5 +1,5 @@
 -- The steps one after the other: what each needs is there after the one before.
-use Rattle.std.proofs.Common.{◌≡◌, ◌≢◌, ℕ, List, [], ◌∷◌, flat_map, map, length, Some, refl, sym, ap, subst, ◌∙◌, arith}
+use Rattle.std.proofs.Common.{◌≡◌, ◌≢◌, ℕ, List, [], ◌∷◌, flat_map, sym, ap, subst, ◌∙◌, arith}
 use Rattle.std.specs.Prelude.{codes, slice_get}
 use Rattle.std.specs.List.{AllByRecursion as Each}
 use Rattle.ap_desc.specs.declared.design.Design.{Design}
@@ -9,15 +9,13 @@ use Rattle.ap_net.specs.declared.net.Port.{Port}
 use Rattle.ap_net.specs.Draft.{Draft, Extends}
 use Rattle.ap_net.specs.Late.{IsLate}
 use Rattle.ap_net.specs.Modules.{port_net}
-use Rattle.ap_net.specs.Outside.{input, output}
-use Rattle.ap_net.specs.Ready.{numbers}
+use Rattle.ap_net.specs.Outside.{output}
 use Rattle.ap_net.proofs.Laws.{Extends-trans}
 use Rattle.ap_net.proofs.Lists.{All-from, All-map, All-unmap, some_same}
 use Rattle.ap_pipe.specs.declared.table.SlotTable.{SlotTable}
 use Rattle.ap_ctl.specs.declared.nets.ControlNets.{ControlNets}
 use Rattle.ap_ctl.specs.Building.{IsBit}
 use Rattle.ap_flight.specs.declared.stage.Coming.{Coming}
-use Rattle.ap_flight.specs.declared.stage.StageRegisters.{StageRegisters}
 use Rattle.ap_flight.specs.Stages.{stage_wires}
 use Rattle.ap_flight.proofs.Driving.{open_later}
 use Rattle.ap_stages.specs.declared.stage.ServedStage.{ServedStage}
@@ -26,7 +24,7 @@ use Rattle.ap_front.specs.declared.ports.Ports.{Ports}
 use Rattle.ap_front.specs.declared.registers.Registers.{Registers}
 use Rattle.ap_front.specs.Driven.{DrivesStages, IsOther}
 use Rattle.ap_front.specs.Fetching.{DrivesFetch, IsFetching}
-use Rattle.ap_front.specs.Ports.{HasPorts, IsPort}
+use Rattle.ap_front.specs.Ports.{IsPort}
 use Rattle.ap_front.proofs.Driving.{bit_on, like_on}
 use Rattle.ap_flow.specs.Flowing.{CanFlow, fetching_of}
 use Rattle.ap_flow.proofs.Lists.{each_of_one}

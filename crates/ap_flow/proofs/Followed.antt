@@ -1,13 +1,11 @@
 -- What follows from the steps.
-use Rattle.std.proofs.Common.{◌≡◌, ℕ, zero, suc, ◌+◌, ◌<◌, ◌≤◌, List, [], ◌∷◌, ◌++◌, length, flat_map, map, Some, refl, sym, ap, subst, ◌∙◌, arith, append-nil, inl, inr}
-use Rattle.std.specs.Prelude.{Contains, slice_get}
+use Rattle.std.proofs.Common.{ℕ, zero, suc, ◌<◌, List, [], ◌∷◌, length, flat_map, refl, sym, ap, subst, ◌∙◌, arith, append-nil, inl, inr}
+use Rattle.std.specs.Prelude.{Contains}
 use Rattle.std.specs.List.{AllByRecursion as Each}
 use Rattle.std.proofs.lemmas.Option.{slice_get_within}
 use Rattle.ap_desc.specs.declared.design.Design.{Design}
 use Rattle.ap_net.specs.declared.cell.Wire.{Wire}
 use Rattle.ap_net.specs.declared.net.ModuleNet.{ModuleNet}
-use Rattle.ap_net.specs.declared.net.Next.{Next}
-use Rattle.ap_net.specs.Cells.{IsNet}
 use Rattle.ap_net.specs.Draft.{Draft, Extends}
 use Rattle.ap_net.specs.Modules.{ports_among}
 use Rattle.ap_net.specs.Pending.{Among}
@@ -33,12 +31,11 @@ use Rattle.ap_front.specs.declared.ports.Ports.{Ports}
 use Rattle.ap_front.specs.declared.registers.Registers.{Registers}
 use Rattle.ap_front.specs.Driven.{AreComingReady, CanDrive, IsDriven}
 use Rattle.ap_front.specs.Fetching.{fetching_numbers}
-use Rattle.ap_front.specs.Opened.{front_wires}
 use Rattle.ap_front.proofs.Named.{next_later}
 use Rattle.ap_steps.specs.Clocked.{IsClocked}
 use Rattle.ap_steps.specs.Intervals.{BeginningIsReady}
 use Rattle.ap_flow.specs.declared.flow.Flow.{Flow}
-use Rattle.ap_flow.specs.Flowing.{Flows, fetching_of}
+use Rattle.ap_flow.specs.Flowing.{Flows}
 use Rattle.ap_flow.specs.Followed.{FlowFollows, FlowsFollow}
 use Rattle.ap_flow.proofs.Lists.{each_contained, each_of_all, there}
 

@@ -1,7 +1,7 @@
 -- The locals that are live into the stage after one that was served have their nets there.
 use Rattle.std.proofs.Common.{◌≡◌, ℕ, zero, suc, ◌+◌, ◌<◌, ◌≤◌, ◌==◌, ◌&&◌, Bool, true, false, cond, List, [], ◌∷◌, ◌++◌, length, filter, Option, Some, None, inl, inr, refl, sym, ap, subst, ◌∙◌, arith, ⊎_elim}
 use Rattle.std.specs.Prelude.{◌⊎◌, ◌||◌, IsSomeAnd, nat_lt, not, slice_get}
-use Rattle.std.specs.List.{AllByRecursion as Each, list_any}
+use Rattle.std.specs.List.{list_any}
 use Rattle.std.proofs.lemmas.Bool.{and_from, and_parts, cases_lt, lt-ltb, or_right}
 use Rattle.std.proofs.lemmas.Bool.Decides.{nat_tests}
 use Rattle.std.proofs.lemmas.Option.{slice_get_within}
@@ -13,7 +13,6 @@ use Rattle.ap_desc.specs.declared.design.Arg.TheVariants as arg
 use Rattle.ap_desc.specs.declared.design.Design.{Design}
 use Rattle.ap_desc.specs.declared.design.Instr.{Instr}
 use Rattle.ap_desc.specs.declared.design.Micro.{Micro}
-use Rattle.ap_desc.specs.declared.design.Node.{Node as DesignNode}
 use Rattle.ap_model.specs.Fire.{is_match}
 use Rattle.ap_model.specs.Fitting.{IsGood, lines_before}
 use Rattle.ap_model.specs.FlightLocals.{is_live_in, looks_at}
@@ -22,25 +21,22 @@ use Rattle.ap_model.proofs.LineOrder.{at_maker, count, split_earlier, widths_cou
 use Rattle.ap_model.proofs.Readings.{all_before, made_among}
 use Rattle.ap_model.proofs.StageLemmas.{before}
 use Rattle.ap_net.specs.declared.cell.Wire.{Wire}
-use Rattle.ap_net.specs.Draft.{Draft, Extends}
-use Rattle.ap_net.proofs.Laws.{Carries-Extends}
+use Rattle.ap_net.specs.Draft.{Draft}
 use Rattle.ap_net.proofs.Lists.{All-at, Each-at}
 use Rattle.ap_ctl.specs.Building.{Tells}
 use Rattle.ap_ctl.specs.Lists.{EachPair}
-use Rattle.ap_ctl.specs.Nets.{AreDecoded}
-use Rattle.ap_ctl.proofs.Beside.{EachPair-length}
 use Rattle.ap_flight.proofs.Locals.{contained}
 use Rattle.ap_pipe.specs.declared.table.Home.{Home}
 use Rattle.ap_stage.specs.declared.node.Course.{Course}
 use Rattle.ap_stage.specs.declared.node.PortUse.{PortUse}
 use Rattle.ap_stage.specs.declared.row.Line.{Line}
 use Rattle.ap_stage.specs.declared.source.Ground.{Ground}
-use Rattle.ap_stage.specs.Chained.{HasOrigin, IsFull}
+use Rattle.ap_stage.specs.Chained.{IsFull}
 use Rattle.ap_stage.specs.Courses.{AreSame, IsCourse, IsSame}
 use Rattle.ap_stage.specs.Sources.{HasNet}
 use Rattle.ap_course.specs.Instrs.{IsCourseOf}
 use Rattle.ap_course.specs.Lines.{is_portless, line_of, port_use, use_of}
-use Rattle.ap_course.specs.Starts.{AreStarted, IsStarted}
+use Rattle.ap_course.specs.Starts.{AreStarted}
 use Rattle.ap_course.proofs.Lined.{line_gives, use_gives}
 use Rattle.ap_course.proofs.Makers.{good_at, maker_at}
 use Rattle.ap_course.proofs.Numbered.{given_there}
@@ -48,7 +44,6 @@ use Rattle.ap_course.proofs.Whole.{portless_or_port}
 use Rattle.ap_outcome.specs.Outcomes.{CanLeave}
 use Rattle.ap_whole.specs.Handed.{IsInstrCourse}
 use Rattle.ap_front.proofs.Driving.{net_on}
-use Rattle.ap_stages.specs.Staged.{IsStaged}
 use Rattle.ap_stages.proofs.Same.{same_long}
 use Rattle.ap_flow.specs.Served.{StagesCanLeave, StagesHaveInstrs}
 use Rattle.ap_flow.proofs.Lists.{there}

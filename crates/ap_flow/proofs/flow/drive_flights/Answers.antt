@@ -1,9 +1,8 @@
-use Rattle.std.proofs.Common.{◌≡◌, List, length, sym, ap, subst, ◌∙◌}
+use Rattle.std.proofs.Common.{List, length, sym, ap, subst, ◌∙◌}
 use Rattle.ap_desc.proofs.OnePort.{clean_apart}
 use Rattle.ap_pipe.specs.declared.table.StageSlots.{StageSlots}
 use Rattle.ap_flight.specs.declared.entry.Leaving.{Leaving}
 use Rattle.ap_flight.specs.declared.stage.Coming.{Coming}
-use Rattle.ap_flight.specs.declared.stage.StageRegisters.{StageRegisters}
 use Rattle.ap_front.specs.Coming.{AreComings}
 use Rattle.ap_front.proofs.Flying.{names_long}
 use Rattle.ap_flow.specs.Left.{AreLeft, CanLeaveTo}
