@@ -1,5 +1,5 @@
 -- What follows from the steps.
-use Rattle.std.proofs.Common.{ℕ, zero, suc, ◌<◌, List, [], ◌∷◌, length, flat_map, refl, sym, ap, subst, ◌∙◌, arith, append-nil, inl, inr}
+use Rattle.std.proofs.Common.{◌≡◌, ℕ, zero, suc, ◌<◌, List, [], ◌∷◌, length, flat_map, refl, sym, ap, subst, ◌∙◌, arith, append-nil, inl, inr}
 use Rattle.std.specs.Prelude.{Contains}
 use Rattle.std.specs.List.{AllByRecursion as Each}
 use Rattle.std.proofs.lemmas.Option.{slice_get_within}
@@ -31,12 +31,14 @@ use Rattle.ap_front.specs.declared.ports.Ports.{Ports}
 use Rattle.ap_front.specs.declared.registers.Registers.{Registers}
 use Rattle.ap_front.specs.Driven.{AreComingReady, CanDrive, IsDriven}
 use Rattle.ap_front.specs.Fetching.{fetching_numbers}
+use Rattle.ap_front.specs.Opened.{front_wires}
 use Rattle.ap_front.proofs.Named.{next_later}
 use Rattle.ap_steps.specs.Clocked.{IsClocked}
-use Rattle.ap_steps.specs.Intervals.{BeginningIsReady}
+use Rattle.ap_steps.specs.Intervals.{BeginningIsReady, CameAfter, IntervalIsReady}
+use Rattle.ap_steps.specs.TopOrder.{Follows}
 use Rattle.ap_flow.specs.declared.flow.Flow.{Flow}
 use Rattle.ap_flow.specs.Flowing.{Flows}
-use Rattle.ap_flow.specs.Followed.{FlowFollows, FlowsFollow}
+use Rattle.ap_flow.specs.Followed.{FlowGrows, FlowsFollow, FlowsGrow}
 use Rattle.ap_flow.proofs.Lists.{each_contained, each_of_all, there}
 
 -- What comes to the stages was there.
@@ -78,12 +80,12 @@ among_there [] w (k, low, at) = absurd (omega (arith, low))
 among_there (x ∷ ws) w (zero, low, at) = inl (ap (λ (y : Wire). y.number) at)
 among_there (x ∷ ws) w (suc k, low, at) = inr (among_there ws w (k, omega (arith, low), at))
 
-module _ (by : Dependence) (design : Design) (table : SlotTable) (r : Registers) (p : Ports) (control : ControlNets) (target : Wire) (stages : List ServedStage) (made : Flow) (old new : Draft) (h : Flows design table r p control target stages made old new) where
+module _ (design : Design) (table : SlotTable) (r : Registers) (p : Ports) (control : ControlNets) (target : Wire) (stages : List ServedStage) (made : Flow) (old new : Draft) (h : Flows design table r p control target stages made old new) where
   from_flown : Extends h.flown new
   from_flown = Extends-trans h.flown h.fetched new h.fetches.extends h.shows.extends
 
-  coming_ready : BeginningIsReady by new old → AreComingReady by new r.stages table.stages made.comings
-  coming_ready begun place q s c p1 p2 p3 =
+  coming_ready : (by : Dependence) → BeginningIsReady by new old → AreComingReady by new r.stages table.stages made.comings
+  coming_ready by begun place q s c p1 p2 p3 =
       let can : CanDrive old r.stages table.stages made.comings = h.flights.can in
       All-from (IsWithin old.nets) (Ready by new) (λ k lt. begun k lt) (coming_numbers q c) (coming_within old q s.homes c (can.each place q p1) (can.comes place q s c p1 p2 p3))
 
@@ -108,23 +110,55 @@ module _ (by : Dependence) (design : Design) (table : SlotTable) (r : Registers)
       let own : IsClocked h.fetched made.fetching.pc = (h.fetches.takes.from, h.fetches.takes.next) in
       (clocked_later h.fetched new (r.pc ∷ []) h.shows.extends (subst (λ (f : Fetching). IsClocked h.fetched f.pc) h.fetching own, tt)).0
 
-  follows : FlowFollows by design table r p control target stages made old new h
-  follows = record {
-    flown = λ begun n low high. h.flights.drives.came by new from_flown (coming_ready begun) n low high;
-    fetched = (fetching_numbers made.fetching, fetching_within, h.fetches.came by);
-    shown = h.shows.nets;
-    address = (r.pc.number ∷ [], (inl refl, tt), subst (λ (f : Fetching). ReadyAfter by h.fetched (f.pc.number ∷ []) f.address.number) h.fetching (h.fetches.address by));
-    stall = ((h.shows.hold).number ∷ [], (among_there control.hold h.shows.hold h.shows.first, tt), h.shows.stall_came by);
-    kill = (control.kill.number ∷ [], (inl refl, tt), h.shows.kill_came by);
-    grows = (
+  grows : FlowGrows design table r p control target stages made old new h
+  grows = record {
+    steps = (
       record { extends = h.flights.drives.extends; instances = h.flights.drives.instances ∙ sym (append-nil old.instances); ports = h.flights.drives.ports },
       (
         record { extends = h.fetches.extends; instances = h.fetches.instances ∙ sym (append-nil (h.flown).instances); ports = h.fetches.ports },
         (record { extends = h.shows.extends; instances = h.shows.instances ∙ sym (append-nil (h.fetched).instances); ports = ap ports_among h.shows.nets }, tt),
       ),
     );
+    extends = Extends-trans old h.flown new h.flights.drives.extends from_flown;
+    instances = h.shows.instances ∙ h.fetches.instances ∙ h.flights.drives.instances;
+    ports = ap ports_among h.shows.nets ∙ h.fetches.ports ∙ h.flights.drives.ports;
     clocked = (pc_clocked, stages_clocked);
   }
 
+pub flows_grow : FlowsGrow
+flows_grow design table r p control target stages made old new h = grows design table r p control target stages made old new h
+
+-- By the numbers and the drafts of all of the top.
+
+abbrev ReadyOnce : Dependence → Draft → Draft → Draft → Type 0
+ReadyOnce by last a b = BeginningIsReady by last a → IntervalIsReady by last a b
+
+once_as : (by : Dependence) (last a b x y z : Draft) → last ≡ x → a ≡ y → b ≡ z → ReadyOnce by x y z → ReadyOnce by last a b
+once_as by last a b x y z e f g h = subst (λ (d : Draft). ReadyOnce by d a b) (sym e) (subst (λ (d : Draft). ReadyOnce by x d b) (sym f) (subst (λ (d : Draft). ReadyOnce by x y d) (sym g) h))
+
+abbrev CameFrom : Dependence → Draft → Draft → Draft → Type 0
+CameFrom by a b c = (from : List ℕ) × Each (λ k. k < length a.nets) from × CameAfter by from b c
+
+came_as : (by : Dependence) (a b c x y z : Draft) → a ≡ x → b ≡ y → c ≡ z → CameFrom by x y z → CameFrom by a b c
+came_as by a b c x y z e f g h = subst (λ (d : Draft). CameFrom by d b c) (sym e) (subst (λ (d : Draft). CameFrom by x d c) (sym f) (subst (λ (d : Draft). CameFrom by x y d) (sym g) h))
+
+follows_as : (by : Dependence) (a b : Draft) (k l : List ℕ) (m n : ℕ) → a ≡ b → k ≡ l → m ≡ n → Follows by b l n → Follows by a k m
+follows_as by a b k l m n e f g h = subst (λ (d : Draft). Follows by d k m) (sym e) (subst (λ known. Follows by b known m) (sym f) (subst (Follows by b l) (sym g) h))
+
 pub flows_follow : FlowsFollow
-flows_follow by design table r p control target stages made old new h = follows by design table r p control target stages made old new h
+flows_follow by design table r p control target stages made old new h t n e m =
+    let begun = coming_ready design table r p control target stages made old new h by in
+    let from = from_flown design table r p control target stages made old new h in
+    let inside = fetching_within design table r p control target stages made old new h in
+    let address : Follows by h.fetched (numbers (front_wires r)) p.iaddr.number =
+    (r.pc.number ∷ [], (inl refl, tt), subst (λ (f : Fetching). ReadyAfter by h.fetched (f.pc.number ∷ []) f.address.number) h.fetching (h.fetches.address by)) in
+    let stall : Follows by new (numbers control.hold) p.stall.number = ((h.shows.hold).number ∷ [], (among_there control.hold h.shows.hold h.shows.first, tt), h.shows.stall_came by) in
+    let kill : Follows by new (control.kill.number ∷ []) p.kill.number = (control.kill.number ∷ [], (inl refl, tt), h.shows.kill_came by) in
+    record {
+      flown = once_as by t.shown t.transferred t.flown new old h.flown e.shown e.transferred e.flown (λ ready k low high. h.flights.drives.came by new from (begun ready) k low high);
+      fetched = came_as by t.transferred t.flown t.fetched old h.flown h.fetched e.transferred e.flown e.fetched (fetching_numbers made.fetching, inside, h.fetches.came by);
+      shown = ap (λ (d : Draft). d.nets) e.shown ∙ h.shows.nets ∙ ap (λ (d : Draft). d.nets) (sym e.fetched);
+      address = follows_as by t.fetched h.fetched n.front (numbers (front_wires r)) n.address p.iaddr.number e.fetched m.front m.address address;
+      stall = follows_as by t.shown new n.hold (numbers control.hold) n.stall p.stall.number e.shown m.hold m.stall stall;
+      kill = follows_as by t.shown new (n.kill ∷ []) (control.kill.number ∷ []) n.kill_shown p.kill.number e.shown (ap (λ k. k ∷ []) m.kill) m.kill_shown kill;
+    }

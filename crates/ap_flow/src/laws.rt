@@ -1,6 +1,6 @@
 //! Laws of the definitions. They do nothing: their contracts are what they say.
 ghost use Rattle.ap_flow.specs.Border.{FlowsGiveFront, FlowsLeave};
-ghost use Rattle.ap_flow.specs.Followed.{FlowsFollow};
+ghost use Rattle.ap_flow.specs.Followed.{FlowsFollow, FlowsGrow};
 ghost use Rattle.ap_flow.specs.Served.{StagesCanLeave, StagesHaveInstrs};
 
 use ap_commit::laws::leaving_stands;
@@ -13,8 +13,12 @@ pub fn stages_can_leave()
     ensures instrs { StagesHaveInstrs }
 {}
 
-/// What came in each step follows from nets that were there before; each draft grows from the one before, and each register of the front takes
-/// something in the end.
+/// Each draft grows from the one before, and each register of the front takes something in the end.
+pub fn flows_grow()
+    ensures { FlowsGrow }
+{}
+
+/// What came in each step follows from nets that were there before, by the numbers and the drafts of all of the `top`.
 pub fn flows_follow()
     ensures { FlowsFollow }
 {}
