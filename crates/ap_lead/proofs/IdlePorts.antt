@@ -1,5 +1,5 @@
 -- No net is named for a write port of a register or file through which no line writes.
-use Rattle.std.proofs.Common.{◌≡◌, ◌≢◌, ℕ, zero, suc, ◌+◌, ◌<◌, ◌≤◌, ◌==◌, true, false, List, [], ◌∷◌, ◌++◌, length, map, flat_map, drop, Option, Some, None, refl, sym, ap, subst, ◌∙◌, arith, inl, inr, ⊎_elim, append_assoc}
+use Rattle.std.proofs.Common.{◌≡◌, ◌≢◌, ℕ, ◌+◌, ◌<◌, ◌==◌, true, false, List, [], ◌∷◌, ◌++◌, length, map, flat_map, drop, Option, Some, None, refl, sym, ap, subst, ◌∙◌, inl, inr, ⊎_elim, append_assoc}
 use Rattle.std.specs.Prelude.{◌⊎◌, codes, slice_get}
 use Rattle.std.specs.Char.{is_ascii_alphanumeric}
 use Rattle.std.specs.Fmt.{decimal}
@@ -17,7 +17,7 @@ use Rattle.ap_desc.specs.declared.design.Mem.{Mem}
 use Rattle.ap_desc.specs.declared.design.Reg.{Reg}
 use Rattle.ap_model.specs.declared.storage.WritePort.{WritePort}
 use Rattle.ap_model.specs.declared.storage.WritePort.TheVariants as port
-use Rattle.ap_model.specs.Ports.{is_used, write_count, write_groups}
+use Rattle.ap_model.specs.Ports.{is_used, write_groups}
 use Rattle.ap_model.proofs.ListLemmas.{each_flat_map}
 use Rattle.ap_net.specs.declared.net.Instance.{Instance}
 use Rattle.ap_net.specs.declared.net.ModuleNet.{ModuleNet}
@@ -29,24 +29,21 @@ use Rattle.ap_net.specs.Outside.{FilePort, Group, group_name, index_port, output
 use Rattle.ap_net.proofs.Laws.{IsNotNumbered-other}
 use Rattle.ap_net.proofs.Lists.{All-at, All-back, All-both, All-from, All-join, All-map, All-unmap}
 use Rattle.ap_pipe.specs.declared.table.StageSlots.{StageSlots}
-use Rattle.ap_signals.specs.DesignOutside.{enable_name, file_group, group_of, group_of_file, outside_of, reg_group}
+use Rattle.ap_signals.specs.DesignOutside.{enable_name, group_of, group_of_file, outside_of, reg_group}
 use Rattle.ap_signals.specs.NetRuns.{file_part}
 use Rattle.ap_flight.specs.declared.plan.Planned.{Planned}
 use Rattle.ap_flight.specs.Planned.{register_net, slots_from, stage_plan, stages_plan}
 use Rattle.ap_bank.specs.Regs.{reg_net}
 use Rattle.ap_front.specs.NewNames.{ported}
 use Rattle.ap_front.specs.Opened.{front_plan}
-use Rattle.ap_front.specs.Ports.{group_ports_of, input_of, mem_of, ports_of_group, top_ports}
+use Rattle.ap_front.specs.Ports.{group_ports_of, input_of, mem_of, top_ports}
 use Rattle.ap_front.proofs.Apart.{same_place}
 use Rattle.ap_front.proofs.GroupsOnce.{IsThere, groups_there}
-use Rattle.ap_front.proofs.Grouping.{cell_group, no_file_group, no_reg_group, register_group}
+use Rattle.ap_front.proofs.Grouping.{cell_group, no_reg_group, register_group}
 use Rattle.ap_front.proofs.PartNames.{has_no_bar, named_parts, once_parts, plain, same_front, same_stem, same_tail, stem, stem_of}
 use Rattle.ap_front.proofs.PortChain.{top_ports_are}
 use Rattle.ap_front.proofs.PortNames.{head}
-use Rattle.ap_lead.specs.declared.store.Lead.{Lead}
-use Rattle.ap_lead.specs.Declaring.{opened}
-use Rattle.ap_lead.specs.Idle.{GroupsAreOfUsed, HasNoEnable, HasStoragePort, IdlePortsHaveNone, IsNoMemory, NewNamesAreOff}
-use Rattle.ap_lead.specs.Storing.{Leads}
+use Rattle.ap_lead.specs.Idle.{GroupsAreOfUsed, HasStoragePort, IdlePortsHaveNone, IsNoMemory, NewNamesAreOff}
 use Rattle.ap_lead.specs.Writes.{IsShown, outputs_of}
 use Rattle.ap_lead.proofs.Decimals.{decimal_low}
 use Rattle.ap_lead.proofs.Led.{there}

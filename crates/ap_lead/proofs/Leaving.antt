@@ -1,10 +1,9 @@
 -- What the first part of a top leaves to the pieces that come later.
-use Rattle.std.proofs.Common.{◌≡◌, ◌≢◌, ℕ, zero, suc, ◌+◌, ◌*◌, ◌<◌, ◌≤◌, ◌==◌, false, true, List, [], ◌∷◌, ◌++◌, length, map, flat_map, Option, Some, None, refl, sym, ap, subst, ◌∙◌, arith, length-append}
+use Rattle.std.proofs.Common.{◌≡◌, ◌≢◌, ℕ, suc, ◌+◌, ◌<◌, ◌≤◌, ◌==◌, false, true, List, [], ◌∷◌, ◌++◌, length, map, flat_map, Option, Some, None, refl, sym, ap, subst, ◌∙◌, arith, length-append}
 use Rattle.std.specs.Prelude.{codes, option_to_list}
 use Rattle.std.specs.List.{AllByRecursion as Each}
 use Rattle.std.proofs.lemmas.Bool.{eqb-false}
 use Rattle.std.proofs.lemmas.List.{length-map}
-use Rattle.ap_bits.specs.declared.card.Card.{Card}
 use Rattle.ap_desc.specs.declared.design.Design.{Design}
 use Rattle.ap_desc.specs.declared.design.File.{File}
 use Rattle.ap_desc.specs.declared.design.InPort.{InPort as Input}
@@ -24,11 +23,10 @@ use Rattle.ap_net.specs.Wiring.{Unclocked}
 use Rattle.ap_net.proofs.Drafts.{Extends-trans}
 use Rattle.ap_net.proofs.Laws.{IsNotNumbered-other}
 use Rattle.ap_net.proofs.Lists.{All-both, All-from, All-join, All-unmap}
-use Rattle.ap_pipe.specs.declared.table.StageSlots.{StageSlots}
 use Rattle.ap_signals.specs.DesignOutside.{group_of, mem_shape, outside_of}
 use Rattle.ap_signals.specs.NetRuns.{file_part, unit_part, valid_name}
 use Rattle.ap_ctl.specs.Lists.{EachPair}
-use Rattle.ap_ctl.proofs.Beside.{EachPair-length, EachPair-second}
+use Rattle.ap_ctl.proofs.Beside.{EachPair-second}
 use Rattle.ap_flight.specs.declared.plan.Planned.{Planned}
 use Rattle.ap_flight.specs.Planned.{register_wires}
 use Rattle.ap_flight.specs.Stages.{IsOpen}
@@ -39,7 +37,7 @@ use Rattle.ap_front.specs.declared.ports.GroupPorts.{GroupPorts}
 use Rattle.ap_front.specs.declared.ports.MemPorts.{MemPorts}
 use Rattle.ap_front.specs.declared.ports.Ports.{Ports}
 use Rattle.ap_front.specs.NewNames.{ported}
-use Rattle.ap_front.specs.Opened.{AreOpen, front_plan, front_wires}
+use Rattle.ap_front.specs.Opened.{front_plan, front_wires}
 use Rattle.ap_front.specs.Ports.{AreGroupPorts, AreMemPorts, ArePortsOf, HasPorts, IsIndex, IsInput, IsPort, group_ports_of, input_of, mem_of, ports_of_group, top_ports}
 use Rattle.ap_front.proofs.Opened.{registers_extend}
 use Rattle.ap_front.proofs.PortChain.{top_ports_are}
@@ -48,11 +46,9 @@ use Rattle.ap_front.proofs.PortNets.{port_is_late}
 use Rattle.ap_parts.proofs.KnownParts.{files_need}
 use Rattle.ap_store.specs.FilePorts.{file_module_name}
 use Rattle.ap_steps.specs.TopOrder.{mem_numbers}
-use Rattle.ap_lead.specs.declared.store.Lead.{Lead}
-use Rattle.ap_lead.specs.Declaring.{declared, opened}
+use Rattle.ap_lead.specs.Declaring.{opened}
 use Rattle.ap_lead.specs.Leading.{all_numbers, given_numbers, group_numbers, mem_read, mem_write, output_numbers}
 use Rattle.ap_lead.specs.Left.{IsLateGroup, IsLateMem, KnownFilesNeed, LeadsLeaveRest}
-use Rattle.ap_lead.specs.Storing.{Leads}
 use Rattle.ap_lead.proofs.Declaring.{regs_extend}
 use Rattle.ap_lead.proofs.Pigeons.{ArePlaced, all_apart}
 use Rattle.ap_lead.proofs.PortsListed.{ports_listed}
@@ -199,7 +195,7 @@ leads_leave_rest design stages made a h =
       front = record {
         each = All-both (IsOpen first) (λ (w : Wire). w.number < length p.nets + length plan) (IsOpen a)
             (λ w still lt. open_later first a w later (subst (λ l. Unclocked l w.number) (sym h.stores.nexts)
-                (still_unclocked first.nexts h.driven.nexts next.0 made.declared.regs w.number (length b.nets) next.1 next.2 (omega (arith, lt, count)) high still.free)) still)
+            (still_unclocked first.nexts h.driven.nexts next.0 made.declared.regs w.number (length b.nets) next.1 next.2 (omega (arith, lt, count)) high still.free)) still)
             front h.declares.front_open.each low;
         apart = h.declares.front_open.apart;
       };

@@ -6,7 +6,6 @@ use Rattle.std.proofs.lemmas.List.{length-map, map-append}
 use Rattle.std.proofs.lemmas.Option.{slice_get_within}
 use Rattle.ap_desc.specs.declared.design.Design.{Design}
 use Rattle.ap_desc.specs.declared.design.InPort.{InPort as Input}
-use Rattle.ap_desc.specs.declared.design.Mem.{Mem}
 use Rattle.ap_desc.specs.declared.design.Reg.{Reg}
 use Rattle.ap_net.specs.declared.cell.Wire.{Wire}
 use Rattle.ap_net.specs.declared.net.ModuleNet.{ModuleNet}
@@ -22,7 +21,6 @@ use Rattle.ap_net.proofs.Drafts.{Extends-trans}
 use Rattle.ap_net.proofs.Lists.{All-from, All-map, Each-at, get_left}
 use Rattle.ap_net.proofs.Wired.{number-IsNet}
 use Rattle.ap_runs.specs.FirstPorts.{looks_of}
-use Rattle.ap_pipe.specs.declared.table.StageSlots.{StageSlots}
 use Rattle.ap_signals.specs.DesignOutside.{mem_shape, outside_of}
 use Rattle.ap_ctl.specs.Lists.{EachPair}
 use Rattle.ap_ctl.proofs.Beside.{EachPair-at, EachPair-length}
@@ -34,18 +32,16 @@ use Rattle.ap_bank.proofs.LateMade.{extends_long}
 use Rattle.ap_front.specs.declared.ports.MemPorts.{MemPorts}
 use Rattle.ap_front.specs.NewNames.{ported}
 use Rattle.ap_front.specs.Opened.{front_plan, front_wires}
-use Rattle.ap_front.specs.Ports.{AreMemPorts, HasPorts, IsInput, IsPort}
+use Rattle.ap_front.specs.Ports.{AreMemPorts, IsInput, IsPort}
 use Rattle.ap_front.proofs.Opened.{registers_extend}
 use Rattle.ap_steps.specs.Known.{AgreesAtKnown}
 use Rattle.ap_steps.specs.PortNumbers.{ReadPortsAre}
 use Rattle.ap_steps.specs.TopOrder.{IsSeen, MemNumbers}
 use Rattle.ap_steps.proofs.Clocked.{registers_are_clocked}
 use Rattle.ap_steps.proofs.PortNumbers.{known_are_seen, memories_are_looked_at, ports_are_numbered}
-use Rattle.ap_lead.specs.declared.store.Lead.{Lead}
 use Rattle.ap_lead.specs.Declaring.{opened}
-use Rattle.ap_lead.specs.Leading.{given_numbers, mem_read}
-use Rattle.ap_lead.specs.Seen.{LeadIsSeen, LeadsAreSeen, LeadsBegin, RegsAreClocked, lead_registers}
-use Rattle.ap_lead.specs.Storing.{Leads}
+use Rattle.ap_lead.specs.Leading.{mem_read}
+use Rattle.ap_lead.specs.Seen.{LeadsAreSeen, LeadsBegin, RegsAreClocked, lead_registers}
 use Rattle.ap_lead.proofs.Declaring.{regs_extend}
 use Rattle.ap_lead.proofs.Led.{there}
 use Rattle.ap_lead.proofs.PortsListed.{each_self}
