@@ -1,5 +1,5 @@
 -- How the draft grew, and that the instances fit.
-use Rattle.std.proofs.Common.{◌≡◌, ◌≢◌, ℕ, zero, suc, ◌+◌, ◌-◌, ◌<◌, ◌≤◌, List, [], ◌∷◌, ◌++◌, length, map, refl, sym, ap, subst, ◌∙◌, arith, append-nil}
+use Rattle.std.proofs.Common.{◌≡◌, ◌≢◌, ℕ, zero, suc, ◌+◌, ◌-◌, ◌≤◌, List, [], ◌∷◌, ◌++◌, length, map, refl, sym, ap, subst, ◌∙◌, arith, append-nil}
 use Rattle.std.specs.Prelude.{slice_get, Some}
 use Rattle.std.specs.List.{AllByRecursion as Each}
 use Rattle.ap_bits.specs.declared.card.Card.{Card}
@@ -8,7 +8,6 @@ use Rattle.ap_desc.specs.declared.design.Design.{Design}
 use Rattle.ap_desc.specs.declared.design.Unit.{Unit as Resource}
 use Rattle.ap_net.specs.declared.cell.Wire.{Wire}
 use Rattle.ap_net.specs.declared.net.Instance.{Instance}
-use Rattle.ap_net.specs.declared.net.ModuleNet.{ModuleNet}
 use Rattle.ap_net.specs.declared.net.Next.{Next}
 use Rattle.ap_net.specs.declared.net.Role.{Role}
 use Rattle.ap_net.specs.declared.net.Role.TheVariants as role
@@ -22,7 +21,7 @@ use Rattle.ap_net.proofs.Wired.{number-IsNet}
 use Rattle.ap_ctl.specs.declared.nets.ControlGiven.{ControlGiven}
 use Rattle.ap_ctl.specs.declared.nets.ControlNets.{ControlNets}
 use Rattle.ap_ctl.specs.Nets.{AddsControl, IsFreeRegister, valid_wires, with_valid}
-use Rattle.ap_ctl.proofs.Whole.{valid_extends, valid_free}
+use Rattle.ap_ctl.proofs.Whole.{valid_free}
 use Rattle.ap_flight.specs.Stages.{IsOpen}
 use Rattle.ap_flight.proofs.Driving.{open_later}
 use Rattle.ap_parts.specs.Known.{AreKnown, HasParts, IsFoundWith, Knows, StandsThere, known_ports, needs_by}
@@ -52,11 +51,13 @@ later_one low a b w e le h =
     let (net, there, wide) = net_of_width a.nets w.number w.width h.net.net.declared in
     record { net = net; there = stays a.nets b.nets e.nets w.number net there; source = source_by net.role (h.register net there); later = le }
 
-each_later : (low : ℕ) (a b : Draft) (ws : List Wire) → Extends a b → Each (λ (w : Wire). low ≤ w.number) ws → Each (IsFreeRegister a) ws → Each (IsLaterRegister low b) ws
+each_later : (low : ℕ) (a b : Draft) (ws : List Wire) → Extends a b → Each (λ (w : Wire). low ≤ w.number) ws → Each (IsFreeRegister a) ws
+    → Each (IsLaterRegister low b) ws
 each_later low a b [] e le h = tt
 each_later low a b (w ∷ ws) e le h = (later_one low a b w e le.0 h.0, each_later low a b ws e le.1 h.1)
 
-valid_registers : (design : Design) (given : ControlGiven) (a b d : Draft) (nets : ControlNets) (low : ℕ) → IsKept a → low ≤ length a.nets → AddsControl design given a b nets → Extends b d → Each (IsLaterRegister low d) nets.valid
+valid_registers : (design : Design) (given : ControlGiven) (a b d : Draft) (nets : ControlNets) (low : ℕ) → IsKept a → low ≤ length a.nets
+    → AddsControl design given a b nets → Extends b d → Each (IsLaterRegister low d) nets.valid
 valid_registers design given a b d nets low kept le h e =
     let (more, is, fresh) = h.wires in
     let count = design.stages - 1 in
@@ -69,7 +70,8 @@ valid_registers design given a b d nets low kept le h e =
 
 -- Registers that take nothing.
 
-open_still : (a b : Draft) (valid : List Wire) (more : List Next) → Extends a b → b.nexts ≡ a.nexts ++ more → map (λ (x : Next). x.register) more ≡ valid → Each (IsLaterRegister (length a.nets) b) valid → (w : Wire) → IsOpen a w → IsOpen b w
+open_still : (a b : Draft) (valid : List Wire) (more : List Next) → Extends a b → b.nexts ≡ a.nexts ++ more
+    → map (λ (x : Next). x.register) more ≡ valid → Each (IsLaterRegister (length a.nets) b) valid → (w : Wire) → IsOpen a w → IsOpen b w
 open_still a b valid more e nexts registers later w h =
     let low = number-IsNet a.nets w h.net in
     let others : Each (λ (x : Wire). x.number ≢ w.number) valid = All-from (IsLaterRegister (length a.nets) b) (λ (x : Wire). x.number ≢ w.number) (λ x k same. let high = k.later in absurd (omega (arith, low, high, same))) valid later in
@@ -126,7 +128,8 @@ module _ (knows : Knows) (design : Design) (own : List ModuleText) (places : Lis
     pub has_ports : whole.ports ≡ known_ports knows u
     has_ports = sym (ap (λ (m : ModuleText). m.ports) same) ∙ found.has
 
-  pub part_fits : (cards : List Card) (modules : List ModuleText) → FitsCards design cards → HasParts knows cards design modules → (i : Instance) → IsOfUnit design own places i → IsInstanceIn modules i
+  pub part_fits : (cards : List Card) (modules : List ModuleText) → FitsCards design cards → HasParts knows cards design modules → (i : Instance)
+      → IsOfUnit design own places i → IsInstanceIn modules i
   part_fits cards modules fits has i o =
       let f = units_are_found knows cards design modules fits has o.unit o.resource o.at in
       let named = is_named o.unit o.resource o.whole o.at o.there in

@@ -1,15 +1,14 @@
 -- What came follows from what it should.
-use Rattle.std.proofs.Common.{◌≡◌, ℕ, zero, suc, ◌<◌, ◌≤◌, List, [], ◌∷◌, ◌++◌, flat_map, length, map, Some, refl, sym, ap, subst, ◌∙◌, inl, inr}
-use Rattle.std.specs.Prelude.{◌⊎◌, slice_get}
+use Rattle.std.proofs.Common.{◌≡◌, ℕ, zero, suc, List, [], ◌∷◌, ◌++◌, flat_map, map, Some, refl, sym, ap, subst, ◌∙◌, inl, inr}
+use Rattle.std.specs.Prelude.{slice_get}
 use Rattle.std.specs.List.{AllByRecursion as Each}
 use Rattle.ap_desc.specs.declared.design.Design.{Design}
 use Rattle.ap_net.specs.declared.cell.Wire.{Wire}
-use Rattle.ap_net.specs.Draft.{Draft, Extends}
+use Rattle.ap_net.specs.Draft.{Draft}
 use Rattle.ap_net.specs.Modules.{ModuleText}
 use Rattle.ap_net.specs.Pending.{Among, CameAmong}
 use Rattle.ap_net.specs.Ready.{Dependence, ReadyAfter, numbers}
 use Rattle.ap_net.proofs.Lists.{All-back, All-from, All-join, All-map, All-unmap}
-use Rattle.ap_ctl.specs.declared.nets.ControlGiven.{ControlGiven}
 use Rattle.ap_ctl.specs.declared.nets.ControlNets.{ControlNets}
 use Rattle.ap_ctl.specs.Given.{holding, killing}
 use Rattle.ap_ctl.specs.Lists.{EachPair}
@@ -28,7 +27,7 @@ use Rattle.ap_slow.specs.Placed.{IsPlaced, NeedAsSlow, port_nets}
 use Rattle.ap_slow.proofs.Lates.{among_back, among_front}
 use Rattle.ap_steps.specs.TopOrder.{Follows, IsServed, StepFollows, TopDrafts, TopNumbers, UnitFollows, UnitNumbers, busy_numbers, holding_numbers, killing_numbers, unit_numbers}
 use Rattle.ap_work.specs.declared.work.Work.{Work}
-use Rattle.ap_work.specs.Ordering.{DraftsWork, IsDrivenByStage, IsDrivenIn, NumbersWork, WorkFollows, numbers_of}
+use Rattle.ap_work.specs.Ordering.{IsDrivenByStage, IsDrivenIn, NumbersWork, WorkFollows, numbers_of}
 use Rattle.ap_work.specs.Working.{GivesControl, busy_net}
 
 -- Lists of numbers.
@@ -42,9 +41,13 @@ busy_as [] = refl
 busy_as (x ∷ made) = ap (λ l. x.outputs.busy.number ∷ l) (busy_as made)
 
 -- the word of a stage is the first of its registers
-words_among : (known : List ℕ) (stages : List StageRegisters) → Each (Among known) (numbers (flat_map stage_wires stages)) → Each (Among known) (numbers (words_of stages))
+words_among : (known : List ℕ) (stages : List StageRegisters) → Each (Among known) (numbers (flat_map stage_wires stages))
+    → Each (Among known) (numbers (words_of stages))
 words_among known [] h = tt
-words_among known (s ∷ stages) h = (h.0, words_among known stages (All-map (Among known) (λ (w : Wire). w.number) (flat_map stage_wires stages) (All-back (λ (w : Wire). Among known w.number) s.slots (flat_map stage_wires stages) (All-unmap (Among known) (λ (w : Wire). w.number) (s.slots ++ flat_map stage_wires stages) h.1.1))))
+words_among known (s ∷ stages) h =
+    let after = All-unmap (Among known) (λ (w : Wire). w.number) (s.slots ++ flat_map stage_wires stages) h.1.1 in
+    let rest = All-back (λ (w : Wire). Among known w.number) s.slots (flat_map stage_wires stages) after in
+    (h.0, words_among known stages (All-map (Among known) (λ (w : Wire). w.number) (flat_map stage_wires stages) rest))
 
 get_among : (ws : List Wire) (i : ℕ) (w : Wire) → slice_get ws i ≡ Some w → Among (numbers ws) w.number
 get_among [] i w at = cc
@@ -80,9 +83,9 @@ module _ (r : Registers) (p : Ports) (made : Work) (n : TopNumbers) (gives : Giv
   holding_known = (
     among_front n.given (n.front ++ busy_numbers n) made.given.mwait.number (subst (λ (w : Wire). Among n.given w.number) (sym gives.wait) m.wait),
     All-join (Among (holding_numbers n)) (numbers made.given.words) (numbers made.given.busy)
-    (All-from (Among n.front) (Among (holding_numbers n)) (λ k h. among_back n.given (n.front ++ busy_numbers n) k (among_front n.front (busy_numbers n) k h)) (numbers made.given.words) words_known)
-    (subst (Each (Among (holding_numbers n))) (sym busy_known)
-    (All-from (Among (busy_numbers n)) (Among (holding_numbers n)) (λ k h. among_back n.given (n.front ++ busy_numbers n) k (among_back n.front (busy_numbers n) k h)) (busy_numbers n) (among_all (busy_numbers n)))),
+        (All-from (Among n.front) (Among (holding_numbers n)) (λ k h. among_back n.given (n.front ++ busy_numbers n) k (among_front n.front (busy_numbers n) k h)) (numbers made.given.words) words_known)
+        (subst (Each (Among (holding_numbers n))) (sym busy_known)
+        (All-from (Among (busy_numbers n)) (Among (holding_numbers n)) (λ k h. among_back n.given (n.front ++ busy_numbers n) k (among_back n.front (busy_numbers n) k h)) (busy_numbers n) (among_all (busy_numbers n)))),
   )
 
   killing_known : Each (Among (killing_numbers n)) (killing made.given)
@@ -93,7 +96,8 @@ module _ (r : Registers) (p : Ports) (made : Work) (n : TopNumbers) (gives : Giv
 
 -- The conditions of stages.
 
-decoded_follow : (by : Dependence) (d : Draft) (known : List ℕ) (words : List Wire) (decoded : List (List Wire)) → Each (Among known) (numbers words) → EachPair (FollowsWord d) words decoded → Each (Follows by d known) (flat_map numbers decoded)
+decoded_follow : (by : Dependence) (d : Draft) (known : List ℕ) (words : List Wire) (decoded : List (List Wire)) → Each (Among known) (numbers words)
+    → EachPair (FollowsWord d) words decoded → Each (Follows by d known) (flat_map numbers decoded)
 decoded_follow by d known [] [] k h = tt
 decoded_follow by d known [] (conditions ∷ decoded) k h = absurd h
 decoded_follow by d known (word ∷ words) [] k h = tt
@@ -103,7 +107,8 @@ decoded_follow by d known (word ∷ words) (conditions ∷ decoded) k h =
     (All-from (λ (w : Wire). ReadyAfter by d (word.number ∷ []) w.number) (λ (w : Wire). Follows by d known w.number) (λ w ready. (word.number ∷ [], (k.0, tt), ready)) conditions (h.0 by)))
     (decoded_follow by d known words decoded k.1 h.1)
 
-each_follow : (by : Dependence) (d : Draft) (known from : List ℕ) (ws : List Wire) → Each (Among known) from → Each (λ (w : Wire). ReadyAfter by d from w.number) ws → Each (Follows by d known) (numbers ws)
+each_follow : (by : Dependence) (d : Draft) (known from : List ℕ) (ws : List Wire) → Each (Among known) from
+    → Each (λ (w : Wire). ReadyAfter by d from w.number) ws → Each (Follows by d known) (numbers ws)
 each_follow by d known from ws k h =
     All-map (Follows by d known) (λ (w : Wire). w.number) ws (All-from (λ (w : Wire). ReadyAfter by d from w.number) (λ (w : Wire). Follows by d known w.number) (λ w ready. (from, k, ready)) ws h)
 
@@ -117,7 +122,8 @@ record GivenFollows (by : Dependence) (d : Draft) (driven asked hold : List ℕ)
   go : Follows by d asked x.inputs.go.number
   adv : Follows by d hold x.inputs.adv.number
 
-given_follows : (by : Dependence) (design : Design) (nets : ControlNets) (d : Draft) (driven : List ℕ) (x : SlowPlaced) → IsDrivenUnit design nets d x → IsDrivenByStage design driven x → GivenFollows by d driven (asking nets) (numbers nets.hold) x
+given_follows : (by : Dependence) (design : Design) (nets : ControlNets) (d : Draft) (driven : List ℕ) (x : SlowPlaced)
+    → IsDrivenUnit design nets d x → IsDrivenByStage design driven x → GivenFollows by d driven (asking nets) (numbers nets.hold) x
 given_follows by design nets d driven x h k = go (unit_stage design x.unit) h k
   where
     go : (s : ℕ) → IsServedIn design nets d s x → IsDrivenIn driven s x → GivenFollows by d driven (asking nets) (numbers nets.hold) x
@@ -137,7 +143,8 @@ given_follows by design nets d driven x h k = go (unit_stage design x.unit) h k
     }
 
 unit_follows : (by : Dependence) (design : Design) (own : List ModuleText) (places : List ℕ) (united steered : Draft) (asked hold : List ℕ) (t : TopDrafts) (n : TopNumbers) (x : SlowPlaced) → NeedAsSlow design own places by → t.united ≡ united → t.steered ≡ steered
-    → n.valid ++ n.decoded ≡ asked → n.hold ≡ hold → IsPlaced design own places united x → GivenFollows by steered n.driven asked hold x → UnitFollows by t n (numbers_of x)
+    → n.valid ++ n.decoded ≡ asked → n.hold ≡ hold → IsPlaced design own places united x → GivenFollows by steered n.driven asked hold x
+    → UnitFollows by t n (numbers_of x)
 unit_follows by design own places united steered asked hold t n x needs e f g k placed h =
     let slow : by.needs placed.whole.name ≡ slow_needs = needs x.unit placed.resource placed.whole placed.at placed.slow placed.there in
     record {
@@ -150,7 +157,8 @@ unit_follows by design own places united steered asked hold t n x needs e f g k 
       y = subst (λ (d : Draft). ReadyAfter by d (x.inputs.sel.number ∷ x.inputs.a.number ∷ x.inputs.b.number ∷ x.inputs.go.number ∷ []) x.outputs.y.number) (sym e) (placed.stands.y_ready by slow);
     }
 
-each_unit : (by : Dependence) (t : TopDrafts) (n : TopNumbers) (P Q R : SlowPlaced → Type 0) → ((x : SlowPlaced) → P x → Q x → R x → UnitFollows by t n (numbers_of x)) → (made : List SlowPlaced) → Each P made → Each Q made → Each R made
+each_unit : (by : Dependence) (t : TopDrafts) (n : TopNumbers) (P Q R : SlowPlaced → Type 0)
+    → ((x : SlowPlaced) → P x → Q x → R x → UnitFollows by t n (numbers_of x)) → (made : List SlowPlaced) → Each P made → Each Q made → Each R made
     → Each (UnitFollows by t n) (map numbers_of made)
 each_unit by t n P Q R f [] p q r = tt
 each_unit by t n P Q R f (x ∷ made) p q r = (f x p.0 q.0 r.0, each_unit by t n P Q R f made p.1 q.1 r.1)
@@ -175,7 +183,7 @@ work_follows by design r p own places made old new h t n needs e m looks driven 
       units = subst (Each (UnitFollows by t n)) (sym m.units)
           (each_unit by t n (IsPlaced design own places h.united) (IsDrivenUnit design made.nets new) (IsDrivenByStage design n.driven)
           (λ x placed served waits.
-              unit_follows by design own places h.united new (asking made.nets) (numbers made.nets.hold) t n x needs e.united e.steered known m.hold placed (given_follows by design made.nets new n.driven x served waits))
+          unit_follows by design own places h.united new (asking made.nets) (numbers made.nets.hold) t n x needs e.united e.steered known m.hold placed (given_follows by design made.nets new n.driven x served waits))
           made.units h.placed.each h.drives.each driven);
       steered = step_as by (n.valid ++ n.decoded) (asking made.nets) t.controlled t.steered h.controlled new known e.controlled e.steered (asking made.nets, among_all (asking made.nets), h.drives.drives.came by);
     }

@@ -1,6 +1,6 @@
 -- The units of a top are what the border asks.
-use Rattle.std.proofs.Common.{◌≡◌, ℕ, zero, suc, ◌+◌, ◌<◌, ◌≤◌, ◌==◌, ◌&&◌, Bool, true, false, if◌then◌else◌, List, [], ◌∷◌, filter, length, map, Option, Some, None, refl, sym, ap, subst, ◌∙◌, arith, inl, inr}
-use Rattle.std.specs.Prelude.{◌⊎◌, codes, find, nat_lt, slice_get}
+use Rattle.std.proofs.Common.{◌≡◌, ℕ, zero, suc, ◌+◌, ◌<◌, ◌≤◌, ◌==◌, Bool, true, false, if◌then◌else◌, List, [], ◌∷◌, filter, length, map, Option, Some, None, refl, sym, ap, subst, ◌∙◌, arith, inl, inr}
+use Rattle.std.specs.Prelude.{◌⊎◌, find, nat_lt, slice_get}
 use Rattle.std.specs.Option.{option_map_or}
 use Rattle.std.specs.List.{AllByRecursion as Each, range_with_len}
 use Rattle.std.proofs.lemmas.Bool.{and_parts, cases_lt, eqb-false, eqb-true, ltb-true}
@@ -9,8 +9,6 @@ use Rattle.ap_desc.specs.declared.design.Design.{Design}
 use Rattle.ap_desc.specs.declared.design.Unit.{Unit as Resource}
 use Rattle.ap_model.specs.UnitUse.{latency_of}
 use Rattle.ap_model.proofs.ListLemmas.{found_keeps}
-use Rattle.ap_net.specs.declared.cell.Wire.{Wire}
-use Rattle.ap_net.specs.Draft.{Draft, Extends}
 use Rattle.ap_net.specs.Pending.{Among}
 use Rattle.ap_net.proofs.Laws.{Extends-trans}
 use Rattle.ap_signals.specs.NetSignals.{is_slow_unit_of}
@@ -20,7 +18,7 @@ use Rattle.ap_ctl.proofs.Whole.{given_later}
 use Rattle.ap_border.specs.Control.{IsBusyOf}
 use Rattle.ap_front.proofs.Controlled.{IsControl-Extends}
 use Rattle.ap_slow.specs.declared.place.SlowPlaced.{SlowPlaced}
-use Rattle.ap_asked.specs.Served.{GivesSlowUnit, IsServedUnit, IsTopWithControl, ServedUnitsAreJoined, ServedUnitsGiveBorder, ServedUnitsGiveBusy}
+use Rattle.ap_asked.specs.Served.{GivesSlowUnit, IsServedUnit, IsTopWithControl, ServedUnitsGiveBorder}
 use Rattle.ap_asked.proofs.Given.{are_joined, give_busy}
 use Rattle.ap_asked.proofs.Stood.{placed_served}
 use Rattle.ap_work.specs.Serving.{WorkServesBorder, has_number}
@@ -45,7 +43,8 @@ in_filter p (x ∷ xs) n (inr more) on = go (p x) (in_filter p xs n more on)
     go true h = inr h
     go false h = h
 
-unit_there : (units : List Resource) (unit : ℕ) (o : Option Resource) → slice_get units unit ≡ o → 1 < option_map_or (λ (u : Resource). u.latency) o 0 → unit < length units
+unit_there : (units : List Resource) (unit : ℕ) (o : Option Resource) → slice_get units unit ≡ o
+    → 1 < option_map_or (λ (u : Resource). u.latency) o 0 → unit < length units
 unit_there units unit None e slow = absurd (omega (arith, slow))
 unit_there units unit (Some u) e slow = slice_get_within units unit u e
 
@@ -66,7 +65,8 @@ find_unit : (unit : ℕ) (made : List SlowPlaced) → Among (map (λ (x : SlowPl
 find_unit unit [] h = absurd h
 find_unit unit (y ∷ made) h = go (y.unit == unit) refl h (λ k. find_unit unit made k)
   where
-    go : (b : Bool) → (y.unit == unit) ≡ b → (y.unit ≡ unit) ⊎ Among (map (λ (x : SlowPlaced). x.unit) made) unit → (Among (map (λ (x : SlowPlaced). x.unit) made) unit → Found unit made) → Found unit (y ∷ made)
+    go : (b : Bool) → (y.unit == unit) ≡ b → (y.unit ≡ unit) ⊎ Among (map (λ (x : SlowPlaced). x.unit) made) unit
+        → (Among (map (λ (x : SlowPlaced). x.unit) made) unit → Found unit made) → Found unit (y ∷ made)
     go true e h more = (y, ap (λ b. if b then Some y else find (has_number unit) made) e, eqb-true y.unit unit e)
     go false e (inl same) more = absurd (eqb-false y.unit unit e same)
     go false e (inr k) more = let (x, found, same) = more k in (x, ap (λ b. if b then Some y else find (has_number unit) made) e ∙ found, same)

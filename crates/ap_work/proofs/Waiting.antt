@@ -1,5 +1,5 @@
 -- Wires that are still to be driven.
-use Rattle.std.proofs.Common.{◌≡◌, ◌≢◌, ℕ, zero, suc, ◌<◌, ◌≤◌, List, [], ◌∷◌, ◌++◌, flat_map, length, map, refl, sym, ap, subst, ◌∙◌, arith}
+use Rattle.std.proofs.Common.{◌≡◌, ◌≢◌, ℕ, zero, suc, ◌≤◌, List, [], ◌∷◌, ◌++◌, flat_map, length, refl, sym, ap, subst, arith}
 use Rattle.std.specs.List.{AllByRecursion as Each}
 use Rattle.ap_desc.specs.declared.design.Design.{Design}
 use Rattle.ap_net.specs.declared.cell.Wire.{Wire}
@@ -12,11 +12,11 @@ use Rattle.ap_net.proofs.Wired.{number-IsNet}
 use Rattle.ap_slow.specs.declared.place.SlowPlaced.{SlowPlaced}
 use Rattle.ap_slow.specs.Driven.{driven_in, driven_of, unit_stage}
 use Rattle.ap_slow.specs.Placed.{late_nets}
-use Rattle.ap_slow.proofs.Lates.{extends_long}
 use Rattle.ap_work.specs.Leaving.{WaitsForStage, WaitsIn, WorkLeavesLate}
 
 -- what is driven is some of the late wires
-driven_each : (P : Wire → Type 0) (design : Design) (made : List SlowPlaced) → Each P (flat_map late_nets made) → Each P (flat_map (driven_of design) made)
+driven_each : (P : Wire → Type 0) (design : Design) (made : List SlowPlaced) → Each P (flat_map late_nets made)
+    → Each P (flat_map (driven_of design) made)
 driven_each P design [] h = tt
 driven_each P design (x ∷ made) h = go (driven_each P design made h.1.1.1.1.1) (unit_stage design x.unit)
   where
@@ -25,7 +25,8 @@ driven_each P design (x ∷ made) h = go (driven_each P design made h.1.1.1.1.1)
     go more (suc s) = (h.1.1.1.0, (h.1.1.1.1.0, more))
 
 -- by their numbers
-driven_other : (P : ℕ → Type 0) (design : Design) (made : List SlowPlaced) → Each (λ (w : Wire). P w.number) (flat_map late_nets made) → Each P (numbers (flat_map (driven_of design) made))
+driven_other : (P : ℕ → Type 0) (design : Design) (made : List SlowPlaced) → Each (λ (w : Wire). P w.number) (flat_map late_nets made)
+    → Each P (numbers (flat_map (driven_of design) made))
 driven_other P design made h = All-map P (λ (w : Wire). w.number) (flat_map (driven_of design) made) (driven_each (λ (w : Wire). P w.number) design made h)
 
 of_numbers : (P : ℕ → Type 0) (ws : List Wire) → Each P (numbers ws) → Each (λ (w : Wire). P w.number) ws
@@ -50,8 +51,10 @@ module _ (design : Design) where
   Apart driven x = WaitsApart driven (unit_stage design x.unit) x
 
   -- not with a unit before it
-  beside : (y : SlowPlaced) (t : ℕ) (made : List SlowPlaced) → Each (λ n. n ≢ y.inputs.sel.number) (numbers (flat_map late_nets made)) → Each (λ n. n ≢ y.inputs.a.number) (numbers (flat_map late_nets made))
-      → Each (λ n. n ≢ y.inputs.b.number) (numbers (flat_map late_nets made)) → Each (λ n. n ≢ y.inputs.go.number) (numbers (flat_map late_nets made)) → Each (λ n. n ≢ y.inputs.adv.number) (numbers (flat_map late_nets made))
+  beside : (y : SlowPlaced) (t : ℕ) (made : List SlowPlaced) → Each (λ n. n ≢ y.inputs.sel.number) (numbers (flat_map late_nets made))
+      → Each (λ n. n ≢ y.inputs.a.number) (numbers (flat_map late_nets made))
+      → Each (λ n. n ≢ y.inputs.b.number) (numbers (flat_map late_nets made))
+      → Each (λ n. n ≢ y.inputs.go.number) (numbers (flat_map late_nets made)) → Each (λ n. n ≢ y.inputs.adv.number) (numbers (flat_map late_nets made))
       → Each (Apart (numbers (driven_in t y))) made
   beside y t [] p1 p2 p3 p4 p5 = tt
   beside y t (x ∷ made) p1 p2 p3 p4 p5 = (go t (unit_stage design x.unit), beside y t made p1.1.1.1.1.1 p2.1.1.1.1.1 p3.1.1.1.1.1 p4.1.1.1.1.1 p5.1.1.1.1.1)
@@ -80,7 +83,8 @@ module _ (design : Design) where
         All-join (λ n. n ≢ x.inputs.b.number) xs ys h.2 k.2,
       )
 
-  waits_apart : (made : List SlowPlaced) → NoneTwice (numbers (flat_map late_nets made)) → Each (Apart (numbers (flat_map (driven_of design) made))) made
+  waits_apart : (made : List SlowPlaced) → NoneTwice (numbers (flat_map late_nets made))
+      → Each (Apart (numbers (flat_map (driven_of design) made))) made
   waits_apart [] h = tt
   waits_apart (y ∷ made) h = (own (unit_stage design y.unit), others (waits_apart made h.1.1.1.1.1))
     where
@@ -95,7 +99,8 @@ module _ (design : Design) where
         (h.1.1.0.0, (h.1.1.0.1.0, rest y.inputs.b h.1.1.0.1.1)),
       )
 
-      others : Each (Apart (numbers (flat_map (driven_of design) made))) made → Each (Apart (numbers (driven_of design y ++ flat_map (driven_of design) made))) made
+      others : Each (Apart (numbers (flat_map (driven_of design) made))) made
+          → Each (Apart (numbers (driven_of design y ++ flat_map (driven_of design) made))) made
       others k =
           subst (λ l. Each (Apart l) made) (sym (numbers_append (driven_of design y) (flat_map (driven_of design) made)))
           (All-both (Apart (numbers (driven_of design y))) (Apart (numbers (flat_map (driven_of design) made))) (Apart (numbers (driven_of design y) ++ numbers (flat_map (driven_of design) made)))
@@ -103,7 +108,8 @@ module _ (design : Design) where
           (beside y (unit_stage design y.unit) made h.0.1.1.1.1 h.1.0.1.1.1 h.1.1.0.1.1 h.1.1.1.0.1 h.1.1.1.1.0) k)
 
   -- so it stays late
-  wait_on : (driven : List ℕ) (a b : Draft) → ((x : Wire) → Each (λ n. n ≢ x.number) driven → IsLate a x → IsLate b x) → (made : List SlowPlaced) → Each (Apart driven) made → Each (IsLate a) (flat_map late_nets made) → Each (WaitsForStage design b) made
+  wait_on : (driven : List ℕ) (a b : Draft) → ((x : Wire) → Each (λ n. n ≢ x.number) driven → IsLate a x → IsLate b x) → (made : List SlowPlaced)
+      → Each (Apart driven) made → Each (IsLate a) (flat_map late_nets made) → Each (WaitsForStage design b) made
   wait_on driven a b stay [] h l = tt
   wait_on driven a b stay (x ∷ made) h l = (go (unit_stage design x.unit) h.0, wait_on driven a b stay made h.1 l.1.1.1.1.1)
     where

@@ -39,9 +39,10 @@ pub record IsLaterRegister (count : ℕ) (d : Draft) (w : Wire) : Type 0 where
   pub source : IsSource net.role
   pub later : count ≤ w.number
 
--- All that was there stays. The valid bits came and take something; registers that took nothing take nothing still. A name that neither a unit nor a valid bit has is as new as it was.
-pub record GrowsOn (design : Design) (r : Registers) (p : Ports) (own : List ModuleText) (places : List ℕ) (made : Work) (old new : Draft) (h : Works design r p own places made old new) : Type 0 where
-  pub steps : AtEachStep Grows old (steps_to h.united h.stood h.controlled new h.placed.parts)
+-- All that was there stays. The valid bits came and take something; registers that took nothing take nothing still. A name that neither a unit
+-- nor a valid bit has is as new as it was.
+pub record GrowsOn (design : Design) (made : Work) (slow : List Instance) (united stood controlled old new : Draft) : Type 0 where
+  pub steps : AtEachStep Grows old (steps_to united stood controlled new slow)
   pub extends : Extends old new
   pub ports : ports_among new.nets ≡ ports_among old.nets
   pub nexts : (more : List Next) × (new.nexts ≡ old.nexts ++ more) × (map (λ (x : Next). x.register) more ≡ made.nets.valid)
@@ -49,15 +50,18 @@ pub record GrowsOn (design : Design) (r : Registers) (p : Ports) (own : List Mod
   pub clocked : Each (IsClocked new) made.nets.valid
   pub untaken : (ws : List Wire) → AreOpen old ws → AreOpen new ws
   pub fresh : CanFresh new
-  pub names : (name : List ℕ) → IsNotNumbered name → ((u : Resource) → unit_part u ≢ name) → IsNoValid design name → IsNew name (names_of old) → IsNew name (names_of new)
+  pub names : (name : List ℕ) → IsNotNumbered name → ((u : Resource) → unit_part u ≢ name) → IsNoValid design name → IsNew name (names_of old)
+      → IsNew name (names_of new)
 
 abbrev pub WorkGrows : Type 0
-WorkGrows = (design : Design) (r : Registers) (p : Ports) (own : List ModuleText) (places : List ℕ) (made : Work) (old new : Draft) (h : Works design r p own places made old new) → GrowsOn design r p own places made old new h
+WorkGrows = (design : Design) (r : Registers) (p : Ports) (own : List ModuleText) (places : List ℕ) (made : Work) (old new : Draft)
+    → (h : Works design r p own places made old new) → GrowsOn design made h.placed.parts h.united h.stood h.controlled old new
 
 -- The instances fit any modules that have the design's parts.
 abbrev pub WorkFitsParts : Type 0
-WorkFitsParts = (knows : Knows) (cards : List Card) (design : Design) (r : Registers) (p : Ports) (own : List ModuleText) (places : List ℕ) (kinds : ℕ) (modules : List ModuleText) (made : Work) (old new : Draft)
-    → AreKnown knows design own places kinds → FitsCards design cards → HasParts knows cards design modules → (h : Works design r p own places made old new) → Each (IsInstanceIn modules) h.placed.parts
+WorkFitsParts = (knows : Knows) (cards : List Card) (design : Design) (r : Registers) (p : Ports) (own : List ModuleText) (places : List ℕ) (kinds : ℕ)
+    (modules : List ModuleText) (made : Work) (old new : Draft) → AreKnown knows design own places kinds → FitsCards design cards
+    → HasParts knows cards design modules → (h : Works design r p own places made old new) → Each (IsInstanceIn modules) h.placed.parts
 
 -- A unit that some line uses waits for its operation and its operands, which the stage drives.
 abbrev pub WaitsIn : Draft → ℕ → SlowPlaced → Type 0
@@ -74,4 +78,5 @@ pub record LeavesLate (design : Design) (made : Work) (old new : Draft) : Type 0
   pub others : StayLate old new
 
 abbrev pub WorkLeavesLate : Type 0
-WorkLeavesLate = (design : Design) (r : Registers) (p : Ports) (own : List ModuleText) (places : List ℕ) (made : Work) (old new : Draft) → Works design r p own places made old new → LeavesLate design made old new
+WorkLeavesLate = (design : Design) (r : Registers) (p : Ports) (own : List ModuleText) (places : List ℕ) (made : Work) (old new : Draft)
+    → Works design r p own places made old new → LeavesLate design made old new

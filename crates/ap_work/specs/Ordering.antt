@@ -42,12 +42,12 @@ pub record NumbersWork (r : Registers) (p : Ports) (made : Work) (n : TopNumbers
   pub fires : n.fires ≡ numbers made.nets.fires
 
 -- and these are the drafts
-pub record DraftsWork (design : Design) (r : Registers) (p : Ports) (own : List ModuleText) (places : List ℕ) (made : Work) (old new : Draft) (h : Works design r p own places made old new) (t : TopDrafts) : Type 0 where
-  pub filed : t.filed ≡ old
-  pub united : t.united ≡ h.united
-  pub stood : t.stood ≡ h.stood
-  pub controlled : t.controlled ≡ h.controlled
-  pub steered : t.steered ≡ new
+pub record DraftsWork (t : TopDrafts) (a b c d e : Draft) : Type 0 where
+  pub filed : t.filed ≡ a
+  pub united : t.united ≡ b
+  pub stood : t.stood ≡ c
+  pub controlled : t.controlled ≡ d
+  pub steered : t.steered ≡ e
 
 -- what a unit that some line uses waits for is driven by the stages
 abbrev pub IsDrivenIn : List ℕ → ℕ → SlowPlaced → Type 0
@@ -71,9 +71,12 @@ pub record FollowsWork (by : Dependence) (t : TopDrafts) (n : TopNumbers) : Type
 
 -- It does so by an outside that looks at nothing for the valid bits, where the stages drive what units wait for.
 abbrev pub WorkFollows : Type 0
-WorkFollows = (by : Dependence) (design : Design) (r : Registers) (p : Ports) (own : List ModuleText) (places : List ℕ) (made : Work) (old new : Draft) (h : Works design r p own places made old new) (t : TopDrafts) (n : TopNumbers)
-    → NeedAsSlow design own places by → DraftsWork design r p own places made old new h t → NumbersWork r p made n → Each (λ k. by.looks k ≡ []) n.valid → Each (IsDrivenByStage design n.driven) made.units → FollowsWork by t n
+WorkFollows = (by : Dependence) (design : Design) (r : Registers) (p : Ports) (own : List ModuleText) (places : List ℕ) (made : Work) (old new : Draft)
+    (h : Works design r p own places made old new) (t : TopDrafts) (n : TopNumbers) → NeedAsSlow design own places by
+    → DraftsWork t old h.united h.stood h.controlled new → NumbersWork r p made n → Each (λ k. by.looks k ≡ []) n.valid
+    → Each (IsDrivenByStage design n.driven) made.units → FollowsWork by t n
 
 -- By the names of their modules the units depend as they should.
 abbrev pub KnownUnitsNeed : Type 0
-KnownUnitsNeed = (knows : Knows) (design : Design) (own : List ModuleText) (places : List ℕ) (kinds : ℕ) (by : Dependence) → AreKnown knows design own places kinds → by.needs ≡ needs_by knows.names design → NeedAsSlow design own places by
+KnownUnitsNeed = (knows : Knows) (design : Design) (own : List ModuleText) (places : List ℕ) (kinds : ℕ) (by : Dependence)
+    → AreKnown knows design own places kinds → by.needs ≡ needs_by knows.names design → NeedAsSlow design own places by

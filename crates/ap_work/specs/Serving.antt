@@ -40,5 +40,7 @@ pub record ServesBorder (knows : Knows) (cards : List Card) (design : Design) (d
   pub units : (stage unit : ℕ) → is_slow_unit_of design stage unit ≡ true → WorksUnit cards design d modules made stage unit
 
 abbrev pub WorkServesBorder : Type 0
-WorkServesBorder = (knows : Knows) (cards : List Card) (design : Design) (r : Registers) (p : Ports) (own : List ModuleText) (places : List ℕ) (kinds : ℕ) (modules : List ModuleText) (made : Work) (old new d : Draft)
-    → AreKnown knows design own places kinds → FitsCards design cards → HasParts knows cards design modules → Works design r p own places made old new → Extends new d → d.name ≡ codes "top" → ServesBorder knows cards design d modules made
+WorkServesBorder = (knows : Knows) (cards : List Card) (design : Design) (r : Registers) (p : Ports) (own : List ModuleText) (places : List ℕ) (kinds : ℕ)
+    (modules : List ModuleText) (made : Work) (old new d : Draft) → AreKnown knows design own places kinds → FitsCards design cards
+    → HasParts knows cards design modules → Works design r p own places made old new → Extends new d → d.name ≡ codes "top"
+    → ServesBorder knows cards design d modules made

@@ -33,8 +33,8 @@ pub record HasFront (design : Design) (d : Draft) (r : Registers) (p : Ports) : 
 
 -- Ports and open registers are that in each later draft.
 abbrev pub OpenFrontsStand : Type 0
-OpenFrontsStand = (design : Design) (table : SlotTable) (r : Registers) (p : Ports) (a d : Draft) → AreSlotsOf design table → NamesFront design a table.stages r → AreOpen a (front_wires r) → HasPorts design a p → Extends a d
-    → HasFront design d r p
+OpenFrontsStand = (design : Design) (table : SlotTable) (r : Registers) (p : Ports) (a d : Draft) → AreSlotsOf design table
+    → NamesFront design a table.stages r → AreOpen a (front_wires r) → HasPorts design a p → Extends a d → HasFront design d r p
 
 -- where a unit says that it isn't done
 abbrev pub busy_net : SlowPlaced → Wire
@@ -76,10 +76,11 @@ pub record StandsControlled (design : Design) (made : Work) (d : Draft) : Type 0
   pub nets : AreControlNets design d made.nets
 
 abbrev pub WorkStands : Type 0
-WorkStands = (design : Design) (r : Registers) (p : Ports) (own : List ModuleText) (places : List ℕ) (made : Work) (old new d : Draft) → IsClean design → Works design r p own places made old new → Extends new d
-    → StandsControlled design made d
+WorkStands = (design : Design) (r : Registers) (p : Ports) (own : List ModuleText) (places : List ℕ) (made : Work)
+    (old new d : Draft) → IsClean design → Works design r p own places made old new → Extends new d → StandsControlled design made d
 
 -- Once outputs show what it says, it stands as the border asks, in each later draft.
 abbrev pub WorkIsControlled : Type 0
-WorkIsControlled = (design : Design) (r : Registers) (p : Ports) (own : List ModuleText) (places : List ℕ) (made : Work) (old new c d : Draft) → Works design r p own places made old new → HasPorts design old p → Extends new c
+WorkIsControlled = (design : Design) (r : Registers) (p : Ports) (own : List ModuleText) (places : List ℕ) (made : Work)
+    (old new c d : Draft) → Works design r p own places made old new → HasPorts design old p → Extends new c
     → (shows : ShowsControl made.nets p.stall p.kill c d) → IsControlled design d made.given made.nets shows.hold p.stall p.kill

@@ -1,4 +1,4 @@
-use Rattle.std.proofs.Common.{◌≡◌, List, map, sym, ap, subst, ◌∙◌}
+use Rattle.std.proofs.Common.{List, map, sym, ap, subst, ◌∙◌}
 use Rattle.ap_slow.specs.declared.place.SlowPlaced.{SlowPlaced}
 use Rattle.ap_slow.specs.Driven.{CanDrive, DrivesUnits}
 use Rattle.ap_ctl.specs.Given.{slow_units}
@@ -58,7 +58,7 @@ returns c =
       kept = c.rules.ensures;
       gives = record { words = g.words; wait = g.wait; taken = g.taken; busy = busy };
       there = given_is c.args.design.now c.args.registers.now c.args.ports.now c.args.modules.now c.args.places.now c.in_ok-given.given c.in_ok-units.units c.in_ok-taken.taken c.args.out.now c.place_slow_units.new.out c.late.new.self c.requires.clean
-      c.rules.ensures c.requires.front placed late g.words g.wait g.taken busy;
+          c.rules.ensures c.requires.front placed late g.words g.wait g.taken busy;
       control = n.control;
       adds = n.adds;
       follows = n.follows;
