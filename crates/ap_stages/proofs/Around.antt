@@ -1,6 +1,6 @@
 -- What the stages of a design leave as it was, and what they follow from.
-use Rattle.std.proofs.Common.{◌≡◌, ℕ, zero, suc, ◌+◌, ◌<◌, ◌≤◌, ◌==◌, true, List, [], ◌∷◌, ◌++◌, length, map, flat_map, Option, Some, None, inl, inr, refl, sym, ap, subst, ◌∙◌, arith, ⊎_elim, eqb-true}
-use Rattle.std.specs.Prelude.{◌≢◌, ◌⊎◌, find, slice_get}
+use Rattle.std.proofs.Common.{◌≡◌, ℕ, zero, suc, ◌+◌, ◌==◌, List, [], ◌∷◌, ◌++◌, map, flat_map, Option, Some, None, inl, inr, refl, sym, ap, subst, ◌∙◌, arith}
+use Rattle.std.specs.Prelude.{◌≢◌, find, slice_get}
 use Rattle.std.specs.List.{AllByRecursion as Each}
 use Rattle.std.specs.Option.{option_map}
 use Rattle.std.proofs.lemmas.Option.{same_Some, slice_get_within}
@@ -10,7 +10,6 @@ use Rattle.ap_desc.specs.Clean.{IsClean}
 use Rattle.ap_desc.specs.declared.design.Design.{Design}
 use Rattle.ap_desc.specs.declared.design.Node.{Node as DesignNode}
 use Rattle.ap_desc.specs.declared.design.Node.TheVariants as design_node
-use Rattle.ap_desc.specs.declared.design.Unit.{Unit as Resource}
 use Rattle.ap_merge.specs.declared.table.Choice.{Choice}
 use Rattle.ap_merge.specs.declared.table.Select.{Select}
 use Rattle.ap_net.specs.declared.cell.Wire.{Wire}
@@ -19,7 +18,7 @@ use Rattle.ap_net.specs.Draft.{Draft, Extends, names_of}
 use Rattle.ap_net.specs.Modules.{ModuleText}
 use Rattle.ap_net.specs.Names.{AreDistinct, IsNew}
 use Rattle.ap_net.specs.Pending.{Among}
-use Rattle.ap_net.specs.Ready.{Dependence, ReadyAfter, numbers}
+use Rattle.ap_net.specs.Ready.{Dependence, numbers}
 use Rattle.ap_net.specs.Wiring.{taken_names}
 use Rattle.ap_net.proofs.Laws.{Extends-trans, stays}
 use Rattle.ap_pipe.specs.declared.table.StageSlots.{StageSlots}

@@ -1,5 +1,5 @@
 -- A stage leaves the nodes of others as they stand: no node is in two stages, and no wire and no name is that of two nodes.
-use Rattle.std.proofs.Common.{◌≡◌, ℕ, zero, suc, ◌==◌, ◌&&◌, Bool, true, false, List, [], ◌∷◌, ◌++◌, length, Some, refl, sym, ap, subst, ◌∙◌, arith}
+use Rattle.std.proofs.Common.{◌≡◌, ℕ, suc, ◌==◌, ◌&&◌, Bool, true, false, List, [], ◌∷◌, Some, refl, sym, ap, subst, ◌∙◌, arith}
 use Rattle.std.specs.Prelude.{◌≢◌, slice_get}
 use Rattle.std.specs.List.{AllByRecursion as Each}
 use Rattle.std.proofs.lemmas.Option.{same_Some, slice_get_within}
@@ -22,7 +22,6 @@ use Rattle.ap_merge.specs.declared.table.Choice.{Choice}
 use Rattle.ap_net.specs.declared.cell.Wire.{Wire}
 use Rattle.ap_net.specs.Draft.{Draft}
 use Rattle.ap_net.specs.Modules.{ModuleText}
-use Rattle.ap_net.specs.Names.{IsNew}
 use Rattle.ap_ports.proofs.Added.{one_node}
 use Rattle.ap_ports.proofs.Members.{at_any, contains_at, each_get, each_of, place_of}
 use Rattle.ap_ports.specs.Numbers.{number_of_node}

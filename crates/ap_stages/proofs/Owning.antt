@@ -1,5 +1,5 @@
 -- The nets of each stage, from the registers of the stages and what control decodes.
-use Rattle.std.proofs.Common.{◌≡◌, ℕ, ◌+◌, ◌-◌, ◌<◌, List, [], ◌∷◌, ◌++◌, length, Some, inl, inr, refl, sym, ap, subst, ◌∙◌, arith, length-append}
+use Rattle.std.proofs.Common.{◌≡◌, ℕ, ◌+◌, ◌<◌, List, [], ◌∷◌, ◌++◌, length, Some, inl, inr, sym, ap, subst, ◌∙◌, arith, length-append}
 use Rattle.std.specs.Prelude.{◌⊎◌, slice_get}
 use Rattle.std.specs.List.{AllByRecursion as Each}
 use Rattle.std.proofs.lemmas.Option.{same_Some, slice_get_within}
@@ -16,7 +16,7 @@ use Rattle.ap_stage.specs.Trees.{IsShallow, source}
 use Rattle.ap_stage.proofs.Listed.{each_both}
 use Rattle.ap_course.specs.Starts.{AreConds}
 use Rattle.ap_stages.specs.Begun.{AreStageNets}
-use Rattle.ap_stages.specs.Own.{AreNetsOf, AreRegistersOf, IsSourceNet, OwnNetsAreReadable, nets_of}
+use Rattle.ap_stages.specs.Own.{AreRegistersOf, IsSourceNet, OwnNetsAreReadable, nets_of}
 use Rattle.ap_stages.specs.Stages.{IsLowStage}
 use Rattle.ap_stages.specs.declared.begin.SharedNets.{SharedNets}
 use Rattle.ap_stages.specs.declared.begin.StageNets.{StageNets}

@@ -1,5 +1,5 @@
 -- Stages that are made one after another.
-use Rattle.std.proofs.Common.{◌≡◌, ℕ, ◌+◌, ◌-◌, ◌<◌, ◌≤◌, List, [], ◌∷◌, ◌++◌, get_or, length, map, Some, inl, inr, refl, sym, ap, subst, ◌∙◌, append_assoc, arith}
+use Rattle.std.proofs.Common.{◌≡◌, ℕ, ◌+◌, ◌-◌, ◌<◌, ◌≤◌, List, [], ◌∷◌, ◌++◌, get_or, length, Some, inl, inr, refl, sym, ap, subst, ◌∙◌, append_assoc, arith}
 use Rattle.std.specs.Prelude.{◌⊎◌, nat_le, slice_get}
 use Rattle.std.specs.List.{AllByRecursion as Each}
 use Rattle.std.proofs.lemmas.Bool.{and_parts, leb-true}
@@ -14,7 +14,7 @@ use Rattle.ap_net.specs.declared.net.Instance.{Instance}
 use Rattle.ap_net.specs.Cells.{IsNet}
 use Rattle.ap_net.specs.Draft.{Adds, Draft, Extends}
 use Rattle.ap_net.specs.Modules.{ModuleText}
-use Rattle.ap_net.specs.Ready.{Dependence, ReadyAfter}
+use Rattle.ap_net.specs.Ready.{ReadyAfter}
 use Rattle.ap_net.proofs.Laws.{Adds-refl, Adds-trans, IsNet-Adds, ReadyAfter-Extends}
 use Rattle.ap_pipe.specs.declared.table.StageSlots.{StageSlots}
 use Rattle.ap_ports.proofs.Members.{each_get, item_at}
@@ -30,7 +30,7 @@ use Rattle.ap_stage.proofs.Listed.{each_both, each_left, each_right}
 use Rattle.ap_stage.proofs.Shallow.{shallow_on}
 use Rattle.ap_stages.specs.Begun.{AreStageNets, base_numbers}
 use Rattle.ap_stages.specs.Staged.{FollowsFrom, IsStaged, stage_numbers}
-use Rattle.ap_stages.specs.Stages.{AreAllReady, AreStaged, FollowAll, IsLowStage, IsMadeAmong, all_nodes}
+use Rattle.ap_stages.specs.Stages.{AreStaged, FollowAll, IsLowStage, IsMadeAmong, all_nodes}
 use Rattle.ap_stages.specs.declared.begin.SharedNets.{SharedNets}
 use Rattle.ap_stages.specs.declared.begin.StageNets.{StageNets}
 use Rattle.ap_stages.specs.declared.nodes.Supplied.{Supplied}

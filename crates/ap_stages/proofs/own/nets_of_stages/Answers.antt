@@ -1,4 +1,4 @@
-use Rattle.std.proofs.Common.{◌≡◌, ◌<◌, Some, length, refl, sym, ap, subst, ◌∙◌, arith}
+use Rattle.std.proofs.Common.{◌<◌, Some, length, refl, sym, ap, subst, ◌∙◌, arith}
 use Rattle.ap_ports.proofs.Members.{item_at}
 use Rattle.ap_stages.proofs.Owning.{NetsSoFar, nets_more}
 use Rattle.ap_stages.proofs.own.nets_of_stages.Goals as goal
