@@ -143,7 +143,7 @@ module _ (design : Design) (p : Placed) (apart : NoneTwice (numbers (late_of p))
       let (i, at) = place_of p.slow h.placed h.among in
       let own : Apart (asked_wires h.placed) k.nets.indices = parts_apart asked_wires index_wires p.slow p.files i file h.placed k.nets units_reads at k.made in
       let one : Apart (asked_wires h.placed) (index ∷ []) = Each-at (λ (w : Wire). Each (λ (u : Wire). u.number ≢ w.number) (index ∷ [])) (asked_wires h.placed) (λ n w here.
-          (single_apart (asked_wires h.placed) k.nets.indices n port w index own here k.index_at, tt)) in
+      (single_apart (asked_wires h.placed) k.nets.indices n port w index own here k.index_at, tt)) in
       subst (λ ws. Apart ws (index ∷ [])) (sym (λ n. h.sel_is n ∷ h.a_is n ∷ h.b_is n ∷ [])) one
 
   slow_mem : (v mem : ℕ) (a b c y index value : Wire) → IsSupplyOf design p (design_node.Unit v) (by.Slow a b c y) → IsSupplyOf design p (design_node.MemRead mem) (by.Read index value) → Apart (a ∷ b ∷ c ∷ []) (index ∷ [])
