@@ -5,3 +5,4 @@ pub mod Used
 pub mod Serving
 pub mod Fitted
 pub mod Written
+pub mod Standing

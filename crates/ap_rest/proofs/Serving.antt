@@ -71,6 +71,9 @@ read_wire design files mems select (design_node.FileRead file port) (by.Slow sel
 read_wire design files mems select (design_node.MemRead mem) (by.Quick place bits) n w P own is made h = absurd made
 read_wire design files mems select (design_node.MemRead mem) (by.Slow sel a b y) n w P own is made h = absurd made
 
+found_as : (supplies : List Supplied) (number : ℕ) (s t : Supply) → supply_of supplies number ≡ Some s → s ≡ t → supply_of supplies number ≡ Some t
+found_as supplies number s t found e = found ∙ ap Some e
+
 pub stages_drive_used : UsedAreNodes → StagesDriveUsed
 stages_drive_used nodes_are design files mems supplies driven clean own stages x w is used =
     let (stage, low, high, is_node) = nodes_are design x clean used in
@@ -81,7 +84,8 @@ stages_drive_used nodes_are design files mems supplies driven clean own stages x
     let (n, n_at) = there s.nodes k (omega arith) in
     let f = s.ports.each k x n at n_at in
     let numbered = node_numbered design stage x clean is_node in
-    read_wire design files mems f.select x f.supply n w (λ (v : Wire). Among driven v.number) (λ index value e. own x index value numbered (f.found ∙ ap Some e)) is f.made
+    read_wire design files mems f.select x f.supply n w (λ (v : Wire). Among driven v.number)
+    (λ index value e. own x index value numbered (found_as supplies (number_of_node x) f.supply (by.Read index value) f.found e)) is f.made
     (wires_at (λ (v : Wire). Among driven v.number) s.nodes k n n_at s.among)
 
 -- Where the others are at rest.

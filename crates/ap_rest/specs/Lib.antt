@@ -4,3 +4,4 @@ pub mod Reads
 pub mod Serving
 pub mod Fitting
 pub mod Memories
+pub mod Standing

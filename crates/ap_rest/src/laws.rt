@@ -2,6 +2,7 @@
 ghost use Rattle.ap_rest.specs.Fitting.{IdleFitParts, IdlesGrow, KnownAreQuick, RestsGrow};
 ghost use Rattle.ap_rest.specs.Memories.{IdleMemoriesAreOff};
 ghost use Rattle.ap_rest.specs.Serving.{ReadsAreServed, StagesDriveUsed, UnusedAreNone, UsedAreNodes};
+ghost use Rattle.ap_rest.specs.Standing.{IdleAreNowhere, IdleReadsAreLate, IdleWritesAreLate, IdlesLeaveNames, QuickAreSomewhere};
 
 use ap_bank::laws::rests_are_off;
 use ap_desc::laws::clean_ports_are_apart;
@@ -15,6 +16,20 @@ pub fn used_ports_are_nodes()
 {
     clean_ports_are_apart();
 }
+
+/// A unit that takes one cycle is a node of a stage of a clean design, or is put at rest, and then it is a node of none.
+pub fn idle_units_are_unused()
+    ensures somewhere { QuickAreSomewhere }
+    ensures nowhere { IdleAreNowhere }
+{
+    used_ports_are_nodes();
+}
+
+/// Where no two nets are one, and those that no line uses are still to be driven, they can be put at rest.
+pub fn idle_nets_are_late()
+    ensures reads { IdleReadsAreLate }
+    ensures writes { IdleWritesAreLate }
+{}
 
 /// Where each stage drives the wires of its nodes, an index that lines use is driven. And each index is, or it is always 0, where the others
 /// are at rest.
@@ -34,10 +49,12 @@ pub fn idle_units_fit()
     parts_are_found();
 }
 
-/// The draft grows by the units that no line uses, and by no instance where nets are put at rest.
+/// The draft grows by the units that no line uses, and by no instance where nets are put at rest. A name that no unit has is as new as it
+/// was.
 pub fn rests_grow()
     ensures idle { IdlesGrow }
     ensures rest { RestsGrow }
+    ensures names { IdlesLeaveNames }
 {}
 
 /// A memory that no line writes is never written.
