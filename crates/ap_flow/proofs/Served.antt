@@ -1,7 +1,7 @@
 -- The locals that are live into the stage after one that was served have their nets there.
 use Rattle.std.proofs.Common.{◌≡◌, ℕ, zero, suc, ◌+◌, ◌<◌, ◌≤◌, ◌==◌, ◌&&◌, Bool, true, false, cond, List, [], ◌∷◌, ◌++◌, length, filter, Option, Some, None, inl, inr, refl, sym, ap, subst, ◌∙◌, arith, ⊎_elim}
 use Rattle.std.specs.Prelude.{◌⊎◌, ◌||◌, IsSomeAnd, nat_lt, not, slice_get}
-use Rattle.std.specs.List.{list_any}
+use Rattle.std.specs.List.{AllByRecursion as Each, list_any}
 use Rattle.std.proofs.lemmas.Bool.{and_from, and_parts, cases_lt, lt-ltb, or_right}
 use Rattle.std.proofs.lemmas.Bool.Decides.{nat_tests}
 use Rattle.std.proofs.lemmas.Option.{slice_get_within}
@@ -45,7 +45,11 @@ use Rattle.ap_outcome.specs.Outcomes.{CanLeave}
 use Rattle.ap_whole.specs.Handed.{IsInstrCourse}
 use Rattle.ap_front.proofs.Driving.{net_on}
 use Rattle.ap_stages.proofs.Same.{same_long}
-use Rattle.ap_flow.specs.Served.{StagesCanLeave, StagesHaveInstrs}
+use Rattle.ap_flow.specs.Served.{ServedCanLeave, StagesCanLeave, StagesHaveInstrs, WasServed}
+use Rattle.ap_flow.specs.Left.{HasInstrs}
+use Rattle.ap_stages.specs.declared.stage.ServedStage.{ServedStage}
+use Rattle.ap_pipe.specs.declared.table.StageSlots.{StageSlots}
+use Rattle.ap_ctl.proofs.Beside.{EachPair-length}
 use Rattle.ap_flow.proofs.Lists.{there}
 
 -- Lines by their stages.
@@ -199,3 +203,23 @@ stages_have_instrs design stage table choices supplies order modules shared own 
           widths = ap (λ s. s.widths) (same.scope ∙ is.of.scope);
           row = record { long = course.row.long; nets_are = λ j v at. net_on e v (course.row.nets_are j v at); wide = course.row.wide };
         }
+
+-- All stages.
+
+pub served_can_leave : ServedCanLeave
+served_can_leave design cards d table stages fits slots long served = record {
+  count = long;
+  instrs = Each-at (HasInstrs design d) stages instrs;
+  homes = homes;
+}
+  where
+    instrs : (place : ℕ) (s : ServedStage) → slice_get stages place ≡ Some s → HasInstrs design d s
+    instrs place s at =
+        let w : WasServed design d place s = served place s at in
+        stages_have_instrs design (place + 1) w.table w.choices w.supplies w.order w.modules w.shared w.own w.old w.new d s.ground s.courses.items s.nodes.items w.staged w.later w.decoded
+
+    homes : (place : ℕ) (s : ServedStage) (after : StageSlots) → slice_get stages place ≡ Some s → slice_get table.stages (place + 1) ≡ Some after → Each (CanLeave s.courses.items) after.homes
+    homes place s after at there =
+        let w : WasServed design d place s = served place s at in
+        let conds = EachPair-length (λ (i : Instr). Tells d (λ r. is_match (r.read s.ground.word.number) i)) design.instrs w.own.conds w.decoded in
+        stages_can_leave design cards (place + 1) w.table w.choices w.supplies w.order w.modules w.shared w.own w.old w.new s.ground s.courses.items s.nodes.items after fits w.staged conds (slots.each (place + 1) after there)
