@@ -138,8 +138,8 @@ writes_are_ready by design fires stages p old new h = record {
       let base = acting fires stages in
       let done : Each (IsDone by new base) (shown_outputs design p) = All-from (IsPortWritten design fires stages new) (IsDone by new base) (λ o k. k.ready by) (shown_outputs design p) h.each in
       All-join (Follows by new base) (flat_map mem_write p.mems) (flat_map group_numbers p.groups)
-          (mems_follow by design new base 0 p.mems (All-back (IsDone by new base) (map group_outputs p.groups) (written_mems design 0 p.mems) done) (λ k m at off. let same : 0 + k ≡ k = omega arith in rest k m at (subst (λ j. is_used design (port.Memory j) ≡ false) same off)))
-          (groups_follow by new base p.groups (All-front (IsDone by new base) (map group_outputs p.groups) (written_mems design 0 p.mems) done));
+      (mems_follow by design new base 0 p.mems (All-back (IsDone by new base) (map group_outputs p.groups) (written_mems design 0 p.mems) done) (λ k m at off. let same : 0 + k ≡ k = omega arith in rest k m at (subst (λ j. is_used design (port.Memory j) ≡ false) same off)))
+      (groups_follow by new base p.groups (All-front (IsDone by new base) (map group_outputs p.groups) (written_mems design 0 p.mems) done));
   grows = grown old new h.drives;
 }
 
