@@ -26,13 +26,12 @@ use Rattle.ap_net.proofs.Lists.{All-join, All-map, All-unmap, Each-at, get_left,
 use Rattle.ap_net.proofs.Netlists.{named_once}
 use Rattle.ap_net.proofs.Renumbered.{some_within}
 use Rattle.ap_store.specs.FileModules.{FilesDepend, file_needs}
-use Rattle.ap_unit.specs.Kinds.{KindsDiffer}
 use Rattle.ap_unit.specs.Slow.{SlowUnitsDepend, slow_needs}
-use Rattle.ap_parts.specs.Known.{HasParts, HasUnitNamed, is_file_name, is_slow_name, known_by, needs_by}
+use Rattle.ap_parts.specs.Known.{AreFirstKinds, HasParts, HasUnitNamed, is_file_name, is_slow_name, known_by, needs_by}
 use Rattle.ap_parts.specs.Parts.{AreBuilt, AreParts, HasFileModule, IsFileModule, IsKindModule, IsNthFile, StandsAt, file_module_name, kind_module_name, kind_name, kind_of, kinds_of, part_names, unit_module_name}
 use Rattle.ap_parts.specs.declared.modules.KindWidth.{KindWidth}
 use Rattle.ap_parts.proofs.FileNames.{file_is_no_kind, file_is_not_top, file_modules_differ, kind_is_not_top}
-use Rattle.ap_parts.proofs.FittingKinds.{kinds_fit}
+use Rattle.ap_parts.proofs.FittingKinds.{first_kinds_fit}
 use Rattle.ap_parts.proofs.KindNames.{kind_names_differ, kinds_differ, named}
 use Rattle.ap_parts.proofs.KnownPorts.{card_at}
 use Rattle.ap_parts.proofs.Lists.{any_there, distinct_join, pair_at, same_map}
@@ -79,15 +78,15 @@ module _ (cards : List Card) (design : Design) (modules : List ModuleText) (plac
   no_file p = All-map (λ y. y ≢ named cards p) file_module_name design.files
       (Each-at (λ f. file_module_name f ≢ named cards p) design.files (λ j f there. file_is_no_kind f (kind_name cards p.kind) p.width))
 
-  names_differ : KindsDiffer cards → AreDistinct (part_names cards design)
-  names_differ differ = distinct_join (map (named cards) all_kinds) (map file_module_name design.files)
-      (kind_names_differ cards differ all_kinds (kinds_fit cards [] design.units tt fits.of_cards.units) (kinds_differ [] design.units tt))
+  names_differ : AreFirstKinds cards design → AreDistinct (part_names cards design)
+  names_differ first = distinct_join (map (named cards) all_kinds) (map file_module_name design.files)
+      (kind_names_differ cards all_kinds (first_kinds_fit cards design.units first fits.of_cards.units) (kinds_differ [] design.units tt))
       (file_modules_differ design fits.clean)
       (All-map (λ x. Each (λ y. y ≢ x) (map file_module_name design.files)) (named cards) all_kinds
       (Each-at (λ p. Each (λ y. y ≢ named cards p) (map file_module_name design.files)) all_kinds (λ i p at. no_file p)))
 
-  distinct : KindsDiffer cards → AreDistinct (map name_of modules)
-  distinct differ = subst AreDistinct (sym names) (names_differ differ)
+  distinct : AreFirstKinds cards design → AreDistinct (map name_of modules)
+  distinct first = subst AreDistinct (sym names) (names_differ first)
 
   abbrev IsBelow : List ℕ → Type 0
   IsBelow name = name ≢ codes "top"
@@ -155,13 +154,13 @@ module _ (cards : List Card) (design : Design) (modules : List ModuleText) (plac
         is_file = is.is_file;
       }
 
-  pub are_parts : KindsDiffer cards → AreParts cards design modules
-  are_parts differ = record {
+  pub are_parts : AreFirstKinds cards design → AreParts cards design modules
+  are_parts first = record {
     names = names;
     units = λ unit u at.
-        let h = unit_found (distinct differ) unit u at in
+        let h = unit_found (distinct first) unit u at in
         record { card = h.card; at = h.at; whole = h.whole; found = h.found; is_unit = h.is_unit };
-    files = file_found (distinct differ);
+    files = file_found (distinct first);
   }
 
   -- What is found by a name is what stands under it.
@@ -203,17 +202,17 @@ module _ (cards : List Card) (design : Design) (modules : List ModuleText) (plac
   Depends m = DependsAs m (needs_by (unit_module_name cards) design m.name)
 
   -- So they have all that a top needs.
-  pub have_parts : SlowUnitsDepend → FilesDepend → KindsDiffer cards → HasParts (known_by cards) cards design modules
-  have_parts slow_depend files_depend differ = record {
+  pub have_parts : SlowUnitsDepend → FilesDepend → AreFirstKinds cards design → HasParts (known_by cards) cards design modules
+  have_parts slow_depend files_depend first = record {
     each = subst (Each IsModule) (sym built.adds.is) (All-join IsModule firsts files
         (EachPair-second (IsKindModule cards) IsModule (λ p m is. is.kept) all_kinds firsts built.are_kinds)
         (EachFrom-second (IsNthFile design) IsModule (λ n m is. is.2.kept) 0 files built.adds.are.each));
-    distinct = distinct differ;
+    distinct = distinct first;
     below = below;
     ordered = subst (Each HasOrder) (sym built.adds.is) (All-join HasOrder firsts files
         (EachPair-second (IsKindModule cards) HasOrder (λ p m is. is.is_unit.ordered) all_kinds firsts built.are_kinds)
         (EachFrom-second (IsNthFile design) HasOrder (λ n m is. is.2.is_file.ordered) 0 files built.adds.are.each));
-    dependent = Each-at Depends modules (λ k m at. depends slow_depend files_depend (distinct differ) k m at);
-    units = unit_found (distinct differ);
-    files = file_found (distinct differ);
+    dependent = Each-at Depends modules (λ k m at. depends slow_depend files_depend (distinct first) k m at);
+    units = unit_found (distinct first);
+    files = file_found (distinct first);
   }

@@ -1,5 +1,5 @@
--- The names of the modules of kinds differ, where those of the kinds do.
-use Rattle.std.proofs.Common.{◌≡◌, ◌≢◌, ℕ, zero, suc, ◌<◌, ◌≤◌, ◌^◌, true, List, [], ◌∷◌, ◌++◌, drop, map, Option, Some, None, refl, sym, ap, subst, ◌∙◌, arith}
+-- The names of the modules of kinds differ, where each kind is the first of its name.
+use Rattle.std.proofs.Common.{◌≡◌, ◌≢◌, ℕ, ◌<◌, ◌≤◌, ◌^◌, true, List, [], ◌∷◌, ◌++◌, drop, map, Option, Some, None, refl, sym, ap, subst, ◌∙◌, arith}
 use Rattle.std.specs.Prelude.{◌==◌, nat_le, position, slice_get, IsTrue}
 use Rattle.std.specs.Char.{is_digit}
 use Rattle.std.specs.Fmt.{decimal}
@@ -14,11 +14,13 @@ use Rattle.ap_bits.specs.declared.card.Widths.TheVariants.{Any, PowersOfTwo}
 use Rattle.ap_desc.proofs.Decimals.{decimal_are_digits}
 use Rattle.ap_desc.specs.declared.design.Unit.{Unit as Resource}
 use Rattle.ap_net.specs.Names.{AreDistinct}
-use Rattle.ap_net.proofs.Lists.{All-at, All-back, All-both, All-join, All-map, Each-at}
-use Rattle.ap_unit.specs.Kinds.{KindsDiffer, names_of}
+use Rattle.ap_net.proofs.Lists.{All-at, All-back, All-both, All-join, All-map, Each-at, some_same}
+use Rattle.ap_unit.specs.Kinds.{place_of}
+use Rattle.ap_parts.specs.Known.{IsFirstKind}
 use Rattle.ap_parts.specs.Parts.{FitsShelf, is_alike, kind_module_name, kind_name, kind_of, kinds_of, with_kind, with_kind_at}
 use Rattle.ap_parts.specs.declared.modules.KindWidth.{KindWidth}
-use Rattle.ap_parts.proofs.Lists.{any_there, none_at, one_place, some_and}
+use Rattle.ap_parts.proofs.FittingKinds.{IsFirstFit}
+use Rattle.ap_parts.proofs.Lists.{any_there, none_at, some_and}
 
 -- A name is told apart from the width behind it: the last _ stands between them.
 
@@ -99,13 +101,9 @@ kinds_differ kinds (u ∷ units) h =
 abbrev pub named : List Card → KindWidth → List ℕ
 named cards p = kind_module_name (kind_name cards p.kind) p.width
 
-named_at : (cards : List Card) (k : ℕ) (c : Card) → slice_get cards k ≡ Some c → slice_get (names_of cards) k ≡ Some c.name
-named_at [] k c at = cc
-named_at (d ∷ cards) zero c at = let same : Some d ≡ Some c = at in ap (λ o. Some (option_map_or (λ (x : Card). x.name) o [])) same
-named_at (d ∷ cards) (suc k) c at = named_at cards k c at
-
-one_kind : (cards : List Card) → KindsDiffer cards → (p q : KindWidth) → FitsShelf cards p → FitsShelf cards q → named cards p ≡ named cards q → p ≡ q
-one_kind cards differ p q fits also e =
+one_kind : (cards : List Card) (p q : KindWidth) → IsFirstKind cards p.kind → IsFirstKind cards q.kind → FitsShelf cards p → FitsShelf cards q
+    → named cards p ≡ named cards q → p ≡ q
+one_kind cards p q first next fits also e =
     let (c, c_at, c_fits) = some_and (λ (x : Card). FitsWidth x p.width) (slice_get cards p.kind) fits in
     let (d, d_at, d_fits) = some_and (λ (x : Card). FitsWidth x q.width) (slice_get cards q.kind) also in
     let low = (width_fits c p.width c_fits).1 in
@@ -113,16 +111,15 @@ one_kind cards differ p q fits also e =
     let both = one_name (kind_name cards p.kind) (kind_name cards q.kind) p.width q.width (omega arith) (omega arith) e in
     let name_c : kind_name cards p.kind ≡ c.name = ap (λ o. option_map_or (λ (x : Card). x.name) o []) c_at in
     let name_d : kind_name cards q.kind ≡ d.name = ap (λ o. option_map_or (λ (x : Card). x.name) o []) d_at in
-    let there : slice_get (names_of cards) q.kind ≡ Some c.name = named_at cards q.kind d d_at ∙ ap Some (sym name_d ∙ sym both.0 ∙ name_c) in
-    let kind : p.kind ≡ q.kind = one_place (names_of cards) p.kind q.kind c.name differ (named_at cards p.kind c c_at) there in
+    let same : c.name ≡ d.name = sym name_c ∙ both.0 ∙ name_d in
+    let kind : p.kind ≡ q.kind = some_same (sym (first c c_at) ∙ ap (λ name. place_of name cards) same ∙ next d d_at) in
     (λ i. record { kind = kind i; width = both.1 i })
 
-pub kind_names_differ : (cards : List Card) → KindsDiffer cards → (kinds : List KindWidth) → Each (FitsShelf cards) kinds → Differ kinds
-    → AreDistinct (map (named cards) kinds)
-kind_names_differ cards differ [] fits h = tt
-kind_names_differ cards differ (p ∷ kinds) fits h = (
+pub kind_names_differ : (cards : List Card) (kinds : List KindWidth) → Each (IsFirstFit cards) kinds → Differ kinds → AreDistinct (map (named cards) kinds)
+kind_names_differ cards [] fits h = tt
+kind_names_differ cards (p ∷ kinds) fits h = (
   All-map (λ name. name ≢ named cards p) (named cards) kinds
-      (All-both (FitsShelf cards) (λ q. q ≢ p) (λ q. named cards q ≢ named cards p)
-      (λ q fit other e. other (one_kind cards differ q p fit fits.0 e)) kinds fits.1 h.0),
-  kind_names_differ cards differ kinds fits.1 h.1,
+      (All-both (IsFirstFit cards) (λ q. q ≢ p) (λ q. named cards q ≢ named cards p)
+      (λ q fit other e. other (one_kind cards q p fit.0 (fits.0).0 fit.1 (fits.0).1 e)) kinds fits.1 h.0),
+  kind_names_differ cards kinds fits.1 h.1,
 )

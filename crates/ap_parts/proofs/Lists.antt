@@ -7,7 +7,7 @@ use Rattle.std.proofs.lemmas.List.Sums.{prefix_len_passes}
 use Rattle.std.proofs.lemmas.Option.{get_or_from_slice_get, slice_get_within}
 use Rattle.ap_ctl.specs.Lists.{EachPair}
 use Rattle.ap_net.specs.Names.{AreDistinct}
-use Rattle.ap_net.proofs.Lists.{All-at, All-front, All-join, All-map, some_same}
+use Rattle.ap_net.proofs.Lists.{All-front, All-join, All-map, some_same}
 
 -- what passes is among those of which some pass, and back
 pub any_at : {X : Type 0} (t : X → Bool) (xs : List X) (k : ℕ) (x : X) → slice_get xs k ≡ Some x → t x ≡ true → list_any t xs ≡ true
@@ -65,15 +65,6 @@ same_map f g (x ∷ xs) (y ∷ ys) long h =
     let head : f x ≡ g y = h zero x y refl refl in
     let tail : map f xs ≡ map g ys = same_map f g xs ys (omega arith) (λ i v w at there. h (suc i) v w at there) in
     (λ i. head i ∷ tail i)
-
--- the same name stands at one place
-pub one_place : (names : List (List ℕ)) (i j : ℕ) (name : List ℕ) → AreDistinct names → slice_get names i ≡ Some name → slice_get names j ≡ Some name
-    → i ≡ j
-one_place [] i j name d a b = absurd cc
-one_place (x ∷ names) zero zero name d a b = refl
-one_place (x ∷ names) zero (suc j) name d a b = absurd (All-at (λ other. other ≢ x) names j name d.0 b (sym (some_same a)))
-one_place (x ∷ names) (suc i) zero name d a b = absurd (All-at (λ other. other ≢ x) names i name d.0 a (sym (some_same b)))
-one_place (x ∷ names) (suc i) (suc j) name d a b = ap suc (one_place names i j name d.1 a b)
 
 pub distinct_left : (xs ys : List (List ℕ)) → AreDistinct (xs ++ ys) → AreDistinct xs
 distinct_left [] ys h = tt

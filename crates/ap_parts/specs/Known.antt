@@ -1,5 +1,5 @@
 -- What a top knows of the modules whose instances it has, and when modules have all that a top needs.
-use Rattle.std.specs.Prelude.{◌≡◌, ◌≢◌, ℕ, ◌+◌, ◌<◌, ◌&&◌, nat_lt, List, [], codes, map, slice_get, Some, if◌then◌else◌, true, Bool, unwrap_or}
+use Rattle.std.specs.Prelude.{◌≡◌, ◌≢◌, ℕ, ◌+◌, ◌<◌, ◌≤◌, ◌&&◌, nat_lt, List, [], codes, length, map, slice_get, Some, if◌then◌else◌, true, Bool, unwrap_or}
 use Rattle.std.specs.List.{AllByRecursion as Each, list_any}
 use Rattle.std.specs.Option.{option_map_or}
 use Rattle.std.specs.Str.{bytes_eq}
@@ -25,7 +25,7 @@ use Rattle.ap_store.specs.FileModules.{file_needs}
 use Rattle.ap_store.specs.FilePorts.{file_ports}
 use Rattle.ap_unit.specs.Slow.{slow_needs}
 use Rattle.ap_unit.specs.Units.{IsUnit, ports_by}
-use Rattle.ap_unit.specs.Kinds.{KindsDiffer}
+use Rattle.ap_unit.specs.Kinds.{place_of}
 use Rattle.ap_parts.specs.Parts.{AreBuilt, AreParts, HasFileModule, file_module_name, unit_module_name}
 
 -- What may depend on what: units of several cycles and files depend as theirs do, by the names of their modules, and the outside looks where it
@@ -90,10 +90,12 @@ pub record StandsThere (modules : List ModuleText) (place : ℕ) (name : List �
   pub has : whole.ports ≡ ports
 
 -- So a top can place an instance of each: the module of each unit stands at the unit's place, and those of the files stand behind those of the
--- kinds, in the order of the files.
+-- kinds, in the order of the files. There are no more of them than units and files.
 pub record AreKnown (knows : Knows) (design : Design) (modules : List ModuleText) (places : List ℕ) (kinds : ℕ) : Type 0 where
   pub units : EachPair (λ (u : Resource) (place : ℕ). StandsThere modules place (knows.names u) (known_ports knows u)) design.units places
   pub files : (file : ℕ) (f : File) → slice_get design.files file ≡ Some f → StandsThere modules (kinds + file) (file_module_name f) (file_ports f)
+  pub within : kinds ≤ length modules
+  pub few : length modules ≤ length design.units + length design.files
 
 -- The first module of this name has these ports.
 pub record IsFoundWith (modules : List ModuleText) (name : List ℕ) (ports : List Port) : Type 0 where
@@ -101,14 +103,22 @@ pub record IsFoundWith (modules : List ModuleText) (name : List ℕ) (ports : Li
   pub found : module_named modules name ≡ Some whole
   pub has : whole.ports ≡ ports
 
+-- The kind at this place is the first one of its name; and so is each kind that a unit of the design has. In a shelf all kinds have different
+-- names, and a description means the first kind of the name that its unit has.
+abbrev pub IsFirstKind : List Card → ℕ → Type 0
+IsFirstKind cards kind = (card : Card) → slice_get cards kind ≡ Some card → place_of card.name cards ≡ Some kind
+
+abbrev pub AreFirstKinds : List Card → Design → Type 0
+AreFirstKinds cards design = Each (λ (u : Resource). IsFirstKind cards u.kind) design.units
+
 -- What is built are the design's parts, they have all that a top needs, and the top knows them.
 abbrev pub BuiltAreParts : Type 0
 BuiltAreParts = (cards : List Card) (design : Design) (modules : List ModuleText) (places : List ℕ) (kinds : ℕ) → FitsCards design cards
-    → KindsDiffer cards → AreBuilt cards design modules places kinds → AreParts cards design modules
+    → AreFirstKinds cards design → AreBuilt cards design modules places kinds → AreParts cards design modules
 
 abbrev pub BuiltHaveParts : Type 0
 BuiltHaveParts = (cards : List Card) (design : Design) (modules : List ModuleText) (places : List ℕ) (kinds : ℕ) → FitsCards design cards
-    → KindsDiffer cards → AreBuilt cards design modules places kinds → HasParts (known_by cards) cards design modules
+    → AreFirstKinds cards design → AreBuilt cards design modules places kinds → HasParts (known_by cards) cards design modules
 
 abbrev pub BuiltAreKnown : Type 0
 BuiltAreKnown = (cards : List Card) (design : Design) (modules : List ModuleText) (places : List ℕ) (kinds : ℕ) → FitsCards design cards

@@ -4,7 +4,7 @@ ghost use Rattle.ap_parts.specs.Known.{BuiltAreKnown, BuiltAreParts, BuiltHavePa
 use ap_store::files_depend;
 use ap_unit::slow::slow_units_depend;
 
-/// What `build_parts` makes are the modules of the design, no others, where the kinds of the shelf have different names. They have all that a
+/// What `build_parts` makes are the modules of the design, no others, where the kind of each unit is the first of its name. They have all that a
 /// `top` needs, and each stands where the `top` looks for it, with the ports that it knows.
 pub fn built_are_parts()
     ensures parts { BuiltAreParts }

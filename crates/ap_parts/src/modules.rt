@@ -6,10 +6,9 @@ ghost use Rattle.ap_bits.specs.Cards.{FitsWidth};
 ghost use Rattle.ap_desc.specs.Clean.{FitsCards, IsClean};
 ghost use Rattle.ap_net.specs.Modules.{IsModule};
 ghost use Rattle.ap_unit.specs.Units.{IsUnit};
-ghost use Rattle.ap_unit.specs.Kinds.{KindsDiffer};
 ghost use Rattle.ap_unit.specs.Shelves.{cards_of};
 ghost use Rattle.ap_ctl.specs.Lists.{EachPair};
-ghost use Rattle.ap_parts.specs.Known.{AreKnown, HasParts, known_by};
+ghost use Rattle.ap_parts.specs.Known.{AreFirstKinds, AreKnown, HasParts, known_by};
 ghost use Rattle.ap_parts.specs.Parts.{AddsFiles, AreBuilt, AreParts, FitsShelf, IsFileModule, IsKindModule, IsNthFile, StandsAt, is_alike, kind_module_name, kind_of, kinds_of, with_kind};
 
 use crate::laws::built_are_parts;
@@ -201,10 +200,11 @@ fn make_parts(alloc: Global, design: &Design, shelf: &Shelf) -> Result<Parts, No
 }
 
 /// The modules of which a design's `top` has instances: those of its units' kinds, each once, and those of its files. They have all
-/// that a `top` needs, and it knows where each stands.
+/// that a `top` needs, and it knows where each stands. Each unit's kind is the first of its name on the shelf, as kinds of different names
+/// are, and as those that a description means.
 pub fn build_parts(alloc: Global, design: &Design, shelf: &Shelf) -> Result<Parts, NoMemory>
     requires fits { FitsCards design.now (cards_of card shelf.now) }
-    requires differ { KindsDiffer (cards_of card shelf.now) }
+    requires first { AreFirstKinds (cards_of card shelf.now) design.now }
     ensures parts { IfOk result (λ p. AreParts (cards_of card shelf.now) design.now p.modules.items) }
     ensures has { IfOk result (λ p.
         HasParts (known_by (cards_of card shelf.now)) (cards_of card shelf.now) design.now

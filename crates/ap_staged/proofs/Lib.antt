@@ -1,1 +1,6 @@
 pub mod Grounds
+pub mod Ports
+pub mod Served
+pub mod Shared
+pub mod Stages
+pub mod Standing

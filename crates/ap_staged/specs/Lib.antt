@@ -1,1 +1,5 @@
 pub mod Grounds
+pub mod Ports
+pub mod Served
+pub mod Stages
+pub mod Standing

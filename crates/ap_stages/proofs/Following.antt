@@ -45,7 +45,7 @@ node_ready_on by a b base (node.Quick u) e h = tt
 node_ready_on by a b base (node.Slow u) e h = ReadyAfter-Extends by a b ((u.sel).number ∷ (u.a).number ∷ (u.b).number ∷ base) (u.y).number e h
 node_ready_on by a b base (node.Read p) e h = ReadyAfter-Extends by a b ((p.index).number ∷ base) (p.value).number e h
 
-nodes_ready_on : (by : Dependence) (a b : Draft) (base : List ℕ) (nodes : List Node) → Extends a b → Each (IsReadyNode by a base) nodes → Each (IsReadyNode by b base) nodes
+pub nodes_ready_on : (by : Dependence) (a b : Draft) (base : List ℕ) (nodes : List Node) → Extends a b → Each (IsReadyNode by a base) nodes → Each (IsReadyNode by b base) nodes
 nodes_ready_on by a b base [] e h = tt
 nodes_ready_on by a b base (n ∷ nodes) e h = (node_ready_on by a b base n e h.0, nodes_ready_on by a b base nodes e h.1)
 

@@ -9,7 +9,7 @@ use Rattle.ap_stage.specs.declared.chain.Node.{Node}
 use Rattle.ap_stages.specs.Supplies.{IsNodeFor}
 use Rattle.ap_stages.specs.declared.nodes.Supplied.{Supplied}
 
-last_or_before : {X : Type 0} (xs : List X) (x : X) (k : ℕ) (c : X) → slice_get (xs ++ x ∷ []) k ≡ Some c → (slice_get xs k ≡ Some c) ⊎ ((k ≡ length xs) × (x ≡ c))
+pub last_or_before : {X : Type 0} (xs : List X) (x : X) (k : ℕ) (c : X) → slice_get (xs ++ x ∷ []) k ≡ Some c → (slice_get xs k ≡ Some c) ⊎ ((k ≡ length xs) × (x ≡ c))
 last_or_before [] x zero c at = inr (refl, same_Some x c at)
 last_or_before [] x (suc k) c at = absurd cc
 last_or_before (y ∷ xs) x zero c at = inl at

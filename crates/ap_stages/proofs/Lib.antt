@@ -9,3 +9,7 @@ pub mod Gathering
 pub mod Same
 pub mod Staged
 pub mod Onward
+pub mod Leaving
+pub mod Together
+pub mod Around
+pub mod Owning

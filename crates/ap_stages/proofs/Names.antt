@@ -59,7 +59,7 @@ distinct_at (x ∷ names) h (suc i) (suc j) a at there =
     let both = and_parts (not (list_any (bytes_eq x) names)) (are_distinct names) h in
     ap suc (distinct_at names both.1 i j a at there)
 
-mapped_at : {X Y : Type 0} (f : X → Y) (xs : List X) (k : ℕ) (x : X) → slice_get xs k ≡ Some x → slice_get (map f xs) k ≡ Some (f x)
+pub mapped_at : {X Y : Type 0} (f : X → Y) (xs : List X) (k : ℕ) (x : X) → slice_get xs k ≡ Some x → slice_get (map f xs) k ≡ Some (f x)
 mapped_at f [] k x at = absurd cc
 mapped_at f (y ∷ xs) zero x at = ap (λ z. Some (f z)) (same_Some y x at)
 mapped_at f (y ∷ xs) (suc k) x at = mapped_at f xs k x at

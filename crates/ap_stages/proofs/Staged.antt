@@ -57,6 +57,8 @@ module _ (design : Design) (stage : ℕ) (table : StageSlots) (choices : List Ch
     begun = b;
     first = first;
     begins = begun;
+    uses = first_only;
+    grows = serves.serves.adds.extends;
     same = same;
     ports = ports;
     all = record { are = each; whole = whole_same first courses same first_whole; full = full; only = only_same nodes first courses same first_only; served = served };

@@ -4,3 +4,6 @@ pub mod Begun
 pub mod Stood
 pub mod Staged
 pub mod Onward
+pub mod Stages
+pub mod Around
+pub mod Own

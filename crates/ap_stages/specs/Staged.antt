@@ -5,7 +5,7 @@ use Rattle.ap_desc.specs.declared.design.Design.{Design}
 use Rattle.ap_desc.specs.declared.design.Node.{Node as DesignNode}
 use Rattle.ap_merge.specs.Choices.{AreChoices}
 use Rattle.ap_merge.specs.declared.table.Choice.{Choice}
-use Rattle.ap_net.specs.Draft.{Draft}
+use Rattle.ap_net.specs.Draft.{Draft, Extends}
 use Rattle.ap_net.specs.Modules.{ModuleText}
 use Rattle.ap_net.specs.Ready.{Dependence, numbers}
 use Rattle.ap_path.specs.Tables.{ArePathsOf}
@@ -48,13 +48,15 @@ abbrev pub FollowsFrom : SharedNets → StageNets → Ground → List Node → D
 FollowsFrom shared own ground nodes old new courses = (by : Dependence) (base : List ℕ) → AreReadyAfter by old base (stage_numbers shared own) → Each (IsReadyNode by old base) nodes
     → AreServedReady by base ground old new (stage_wires nodes) courses
 
--- The stage is served: its instructions began, and then its ports were served. For each unit of one cycle an instance was placed, the wires
--- of the other ports were driven, and nothing else changed.
+-- The stage is served: its instructions began, each using these ports alone, and the draft in which they began grew as the ports were
+-- served. For each unit of one cycle an instance was placed, the wires of the other ports were driven, and nothing else changed.
 pub record IsStaged (design : Design) (stage : ℕ) (table : StageSlots) (choices : List Choice) (supplies : List Supplied) (order : List DesignNode) (modules : List ModuleText) (shared : SharedNets) (own : StageNets) (old new : Draft) (ground : Ground)
     (courses : List Course) (nodes : List Node) : Type 0 where
   pub begun : Draft
   pub first : List Course
   pub begins : IsBegun design stage table shared own old begun ground first
+  pub uses : Each (UsesOnly nodes) first
+  pub grows : Extends begun new
   pub same : AreSame first courses
   pub ports : AreNodesFor design choices supplies order nodes
   pub all : ServesAll new modules ground courses nodes

@@ -7,6 +7,8 @@ mod copy;
 pub mod laws;
 mod link;
 pub mod nodes;
+pub mod own;
 pub mod stage;
+pub mod stages;
 
 pub use ap_bits::NoMemory;

@@ -1,0 +1,5 @@
+pub mod Apart
+pub mod Entries
+pub mod Listed
+pub mod Served
+pub mod SlowOnes
