@@ -136,8 +136,8 @@ given_follows by design nets d driven x h k = go (unit_stage design x.unit) h k
     }
     go (suc s) h k = record {
       sel = inl k.0;
-      a = inl k.1.0;
-      b = inl k.1.1.0;
+      a = inl k.1;
+      b = inl k.2;
       go = (asking nets, among_all (asking nets), h.go_ready by);
       adv = (h.hold.number ∷ [], (get_among nets.hold 0 h.hold h.hold_at, tt), h.adv_ready by);
     }

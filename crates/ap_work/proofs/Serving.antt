@@ -20,7 +20,7 @@ use Rattle.ap_ctl.proofs.Whole.{given_later}
 use Rattle.ap_border.specs.Control.{IsBusyOf}
 use Rattle.ap_front.proofs.Controlled.{IsControl-Extends}
 use Rattle.ap_slow.specs.declared.place.SlowPlaced.{SlowPlaced}
-use Rattle.ap_asked.specs.Served.{GivesSlowUnit, HasWires, IsServedUnit, IsTopWithControl, ServedUnitsGiveBorder}
+use Rattle.ap_asked.specs.Served.{GivesSlowUnit, IsServedUnit, IsTopWithControl, ServedUnitsGiveBorder}
 use Rattle.ap_asked.proofs.Given.{are_joined, give_busy}
 use Rattle.ap_asked.proofs.Stood.{placed_served}
 use Rattle.ap_work.specs.Serving.{WorkServesBorder, has_number}
@@ -155,8 +155,7 @@ work_serves_border border knows cards design r p own places kinds modules made o
             found = found;
             k = (s.stands).k;
             gives = subst (λ n. GivesSlowUnit cards design d modules made.given made.nets stage n (s.stands).k) same (border knows cards design d modules made.given made.nets is_top x s stage own_slow);
-            joins = λ y there is q wires.
-                let same_one : x ≡ y = some_same (sym found ∙ has (FindsItself unit made.units) made.units y once there is) in
-                are_joined knows cards design d modules made.nets parts x s q (subst (HasWires q) (sym same_one) wires);
+            only = λ y there is. some_same (sym found ∙ has (FindsItself unit made.units) made.units y once there is);
+            joins = λ q wires. are_joined knows cards design d modules made.nets parts x s q wires;
           };
     }

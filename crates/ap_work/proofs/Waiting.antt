@@ -123,7 +123,7 @@ module _ (design : Design) where
     where
       go : (s : ℕ) → WaitsApart driven s x → WaitsIn b s x
       go zero k = tt
-      go (suc s) k = (stay x.inputs.sel k.0 l.0, (stay x.inputs.a k.1 l.1.0, (stay x.inputs.b k.2 l.1.1.0, tt)))
+      go (suc s) k = (stay x.inputs.sel k.0 l.0, stay x.inputs.a k.1 l.1.0, stay x.inputs.b k.2 l.1.1.0)
 
 -- The wires for which units wait are some of the late ones.
 
@@ -151,7 +151,7 @@ used_waits design d x stage low high used h = go (unit_stage design x.unit) refl
   where
     go : (s : ℕ) → unit_stage design x.unit ≡ s → WaitsIn d s x → Each (IsLate d) (waiting_wires x)
     go zero e h = absurd (used_somewhere design x.unit stage low high used e)
-    go (suc s) e h = h
+    go (suc s) e h = (h.0, (h.1, (h.2, tt)))
 
 pub work_leaves_late : WorkLeavesLate
 work_leaves_late design r p own places made old new h =

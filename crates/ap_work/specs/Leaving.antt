@@ -71,7 +71,7 @@ waiting_wires x = x.inputs.sel ∷ x.inputs.a ∷ x.inputs.b ∷ []
 
 abbrev pub WaitsIn : Draft → ℕ → SlowPlaced → Type 0
 WaitsIn d zero x = Unit {0}
-WaitsIn d (suc s) x = Each (IsLate d) (waiting_wires x)
+WaitsIn d (suc s) x = IsLate d x.inputs.sel × IsLate d x.inputs.a × IsLate d x.inputs.b
 
 abbrev pub WaitsForStage : Design → Draft → SlowPlaced → Type 0
 WaitsForStage design d x = WaitsIn d (unit_stage design x.unit) x

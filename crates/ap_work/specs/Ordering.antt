@@ -15,7 +15,6 @@ use Rattle.ap_slow.specs.Driven.{unit_stage}
 use Rattle.ap_slow.specs.Placed.{NeedAsSlow}
 use Rattle.ap_steps.specs.TopOrder.{Follows, StepFollows, TopDrafts, TopNumbers, UnitFollows, UnitNumbers, holding_numbers, killing_numbers, unit_numbers}
 use Rattle.ap_work.specs.declared.work.Work.{Work}
-use Rattle.ap_work.specs.Leaving.{waiting_wires}
 use Rattle.ap_work.specs.Working.{Works}
 
 -- the numbers of a unit's nets
@@ -53,7 +52,7 @@ pub record DraftsWork (t : TopDrafts) (a b c d e : Draft) : Type 0 where
 -- what a unit that some line uses waits for is driven by the stages
 abbrev pub IsDrivenIn : List ℕ → ℕ → SlowPlaced → Type 0
 IsDrivenIn driven zero x = Unit {0}
-IsDrivenIn driven (suc s) x = Each (Among driven) (numbers (waiting_wires x))
+IsDrivenIn driven (suc s) x = Among driven x.inputs.sel.number × Among driven x.inputs.a.number × Among driven x.inputs.b.number
 
 abbrev pub IsDrivenByStage : Design → List ℕ → SlowPlaced → Type 0
 IsDrivenByStage design driven x = IsDrivenIn driven (unit_stage design x.unit) x

@@ -29,9 +29,10 @@ has_number unit x = x.unit == unit
 pub record WorksUnit (cards : List Card) (design : Design) (d : Draft) (modules : List ModuleText) (made : Work) (stage unit : ℕ) : Type 0 where
   pub x : SlowPlaced
   pub found : find (has_number unit) made.units ≡ Some x
+  pub only : (y : SlowPlaced) → Contains made.units y → y.unit ≡ unit → x ≡ y
   pub k : ℕ
   pub gives : GivesSlowUnit cards design d modules made.given made.nets stage unit k
-  pub joins : (y : SlowPlaced) → Contains made.units y → y.unit ≡ unit → (s : SlowUnit) → HasWires s y → JoinsUnit d modules k s
+  pub joins : (s : SlowUnit) → HasWires s x → JoinsUnit d modules k s
 
 -- All of them are, and control has their busy nets.
 pub record ServesBorder (knows : Knows) (cards : List Card) (design : Design) (d : Draft) (modules : List ModuleText) (made : Work) : Type 0 where
