@@ -7,3 +7,4 @@ pub mod Written
 pub mod Taken
 pub mod Follow
 pub mod Serving
+pub mod PortsApart

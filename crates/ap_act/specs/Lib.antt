@@ -3,3 +3,4 @@ pub mod Acting
 pub mod Taken
 pub mod Follow
 pub mod Serving
+pub mod Apart
