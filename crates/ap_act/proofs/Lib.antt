@@ -6,3 +6,5 @@ pub mod Steps
 pub mod Written
 pub mod Taken
 pub mod Follow
+pub mod Serving
+pub mod PortsApart

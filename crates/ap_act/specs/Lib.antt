@@ -2,3 +2,5 @@ pub mod Outputs
 pub mod Acting
 pub mod Taken
 pub mod Follow
+pub mod Serving
+pub mod Apart
