@@ -5,4 +5,5 @@ pub mod Used
 pub mod Serving
 pub mod Fitted
 pub mod Written
+pub mod Missing
 pub mod Standing

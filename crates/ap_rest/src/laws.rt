@@ -1,6 +1,6 @@
 //! Laws of the definitions. They do nothing: their contracts are what they say.
 ghost use Rattle.ap_rest.specs.Fitting.{IdleFitParts, IdlesGrow, KnownAreQuick, RestsGrow};
-ghost use Rattle.ap_rest.specs.Memories.{IdleMemoriesAreOff};
+ghost use Rattle.ap_rest.specs.Memories.{IdleMemoriesAreOff, MissingMemoriesHaveNone};
 ghost use Rattle.ap_rest.specs.Serving.{ReadsAreServed, StagesDriveUsed, UnusedAreNone, UsedAreNodes};
 ghost use Rattle.ap_rest.specs.Standing.{IdleAreNowhere, IdleReadsAreLate, IdleWritesAreLate, IdlesLeaveNames, QuickAreSomewhere};
 
@@ -57,9 +57,10 @@ pub fn rests_grow()
     ensures names { IdlesLeaveNames }
 {}
 
-/// A memory that no line writes is never written.
+/// A memory that no line writes is never written, and no net is named for the enable of a memory that the design doesn't have.
 pub fn idle_memories_are_off()
-    ensures { IdleMemoriesAreOff }
+    ensures off { IdleMemoriesAreOff }
+    ensures none { MissingMemoriesHaveNone }
 {
     ports_are_nets();
     rests_are_off();
