@@ -4,3 +4,5 @@ pub mod Served
 pub mod Shared
 pub mod Stages
 pub mod Standing
+pub mod Stood
+pub mod Together

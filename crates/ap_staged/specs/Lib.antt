@@ -3,3 +3,4 @@ pub mod Ports
 pub mod Served
 pub mod Stages
 pub mod Standing
+pub mod Together

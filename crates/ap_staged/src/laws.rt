@@ -3,7 +3,8 @@ ghost use Rattle.ap_staged.specs.Grounds.{DrivenAreNamed, GroundsAreNamed, Share
 ghost use Rattle.ap_staged.specs.Ports.{FileReadsAreOf, KnownAreQuick, MemReadsAreOf, QuickUnitsAreOf, SlowPortsArePlaced, SlowUnitsAreOf, SuppliedPortsAreOf};
 ghost use Rattle.ap_staged.specs.Served.{StagedAreServed};
 ghost use Rattle.ap_staged.specs.Stages.{StagedAreOf, StagedStandOver};
-ghost use Rattle.ap_staged.specs.Standing.{SuppliesStand};
+ghost use Rattle.ap_staged.specs.Standing.{DeclaredMemsStand, PlacedUnitsStand, SuppliesStand};
+ghost use Rattle.ap_staged.specs.Together.{EachWasMade};
 
 use ap_values::laws::served_stages_are_of;
 
@@ -51,7 +52,15 @@ pub fn staged_are_of()
     served_stages_are_of();
 }
 
-/// Where all that was placed stands in a draft, the nodes of the design can be served with it: a stage can be made of them.
+/// Where all that was placed stands in a draft, the nodes of the design can be served with it: a stage can be made of them. Units of several
+/// cycles stand as they were placed, and memories as their ports were declared, where their wires are driven later still.
 pub fn supplies_stand()
-    ensures { SuppliesStand }
+    ensures nodes { SuppliesStand }
+    ensures units { PlacedUnitsStand }
+    ensures mems { DeclaredMemsStand }
+{}
+
+/// Of the stages that were made one after another over the registers of the front and what control decodes, each was made over its own.
+pub fn stages_are_made_over()
+    ensures { EachWasMade }
 {}
