@@ -2,7 +2,8 @@
 use Rattle.std.specs.Prelude.{◌≡◌, ℕ, ◌≤◌, List, Some, slice_get}
 use Rattle.std.specs.List.{AllByRecursion as Each}
 use Rattle.ap_bits.specs.declared.card.Card.{Card}
-use Rattle.ap_desc.specs.Clean.{FitsCards}
+use Rattle.ap_desc.specs.Chains.{IsChainOrder}
+use Rattle.ap_desc.specs.Clean.{FitsCards, IsClean}
 use Rattle.ap_desc.specs.Designs.{index_bits}
 use Rattle.ap_desc.specs.declared.design.Design.{Design}
 use Rattle.ap_desc.specs.declared.design.File.{File}
@@ -58,6 +59,10 @@ pub record StandsIn (design : Design) (cards : List Card) (d : Draft) (p : Place
 pub record IsNumberedIn (design : Design) (x : DesignNode) : Type 0 where
   pub inside : IsNodeIn design x
   pub numbered : IsNumberedNode x
+
+-- Those of a stage's order are.
+abbrev pub OrdersAreNumbered : Type 0
+OrdersAreNumbered = (design : Design) (stage : ℕ) (order : List DesignNode) → IsClean design → IsChainOrder design stage order → Each (IsNumberedIn design) order
 
 -- So nodes of the design can be served, with units of one cycle over modules that have the design's parts.
 abbrev pub SuppliesStand : Type 0

@@ -3,7 +3,7 @@ ghost use Rattle.ap_staged.specs.Grounds.{DrivenAreNamed, GroundsAreNamed, Share
 ghost use Rattle.ap_staged.specs.Ports.{FileReadsAreOf, KnownAreQuick, MemReadsAreOf, QuickUnitsAreOf, SlowPortsArePlaced, SlowUnitsAreOf, SuppliedPortsAreOf};
 ghost use Rattle.ap_staged.specs.Served.{StagedAreServed};
 ghost use Rattle.ap_staged.specs.Stages.{StagedAreOf, StagedStandOver};
-ghost use Rattle.ap_staged.specs.Standing.{DeclaredMemsStand, PlacedUnitsStand, SuppliesStand};
+ghost use Rattle.ap_staged.specs.Standing.{DeclaredMemsStand, OrdersAreNumbered, PlacedUnitsStand, SuppliesStand};
 ghost use Rattle.ap_staged.specs.Together.{EachWasMade};
 
 use ap_values::laws::served_stages_are_of;
@@ -56,6 +56,7 @@ pub fn staged_are_of()
 /// cycles stand as they were placed, and memories as their ports were declared, where their wires are driven later still.
 pub fn supplies_stand()
     ensures nodes { SuppliesStand }
+    ensures orders { OrdersAreNumbered }
     ensures units { PlacedUnitsStand }
     ensures mems { DeclaredMemsStand }
 {}
