@@ -112,6 +112,8 @@ module _ (f : File) (m : ModuleText) (ports : List (Option FileWrite)) (made : F
     names = λ name other ne new. p.names name other ne (makes.names name other (late.names name other new));
     late = λ x h. p.late x (reads.late x (late.late x h));
     came = λ by needs n low high. first by needs n low high (cases_lt n (length c.nets));
+    above = late.above;
+    instances = p.instances ∙ ap (λ l. l ++ p.of ∷ []) (makes.instances ∙ late.instances);
   }
     where
       second : (by : Dependence) (n : ℕ) → length a.nets ≤ n → n < length c.nets → (n < length b.nets) ⊎ (length b.nets ≤ n) → Among (numbers made.indices) n ⊎ ReadyAfter by d (numbers made.indices) n

@@ -10,7 +10,7 @@ use Rattle.ap_net.specs.declared.net.Port.{Port}
 use Rattle.ap_net.specs.Cells.{IsNet}
 use Rattle.ap_net.specs.Draft.{Draft, CanFresh}
 use Rattle.ap_net.specs.Late.{Joins}
-use Rattle.ap_net.specs.Modules.{ModuleText, module_named, outputs}
+use Rattle.ap_net.specs.Modules.{Connects, ModuleText, module_named, outputs}
 use Rattle.ap_net.specs.Opened.{SolvesPart}
 use Rattle.ap_net.specs.Placing.{Places, fresh_nets, instance_in, merged, output_widths, output_wires, wires_from, with_placed}
 use Rattle.ap_net.specs.Pending.{Among, CameAmong}
@@ -64,8 +64,8 @@ module _ (f : File) (m : ModuleText) (reads : List Wire) (writes : List FileWrit
           subst (λ l. ReadyAfter by b l y.number) from (joins.outputs by (read_value i) y here flag)
 
   pub places_file : CanFresh a → Each (IsNet b.nets) values → Always b (λ r. (found : ModuleText) → module_named r.modules m.name ≡ Some found → SolvesPart found of r.read (r.parts (length a.instances)))
-      → Joins of a b → Places (of ∷ []) a b → PlacesFile f m reads writes values a b
-  places_file fresh nets part joins places = record {
+      → Joins of a b → Places (of ∷ []) a b → Connects m of → PlacesFile f m reads writes values a b
+  places_file fresh nets part joins places connects = record {
     of = of;
     named = refl;
     whole = refl;
@@ -83,4 +83,5 @@ module _ (f : File) (m : ModuleText) (reads : List Wire) (writes : List FileWrit
     late = joins.late;
     came = came;
     ready = ready joins;
+    connects = connects;
   }

@@ -27,6 +27,9 @@ fresh_extends d width = record {
   instances = ([], sym (append-nil d.instances));
 }
 
+pub extends_long : (a b : Draft) → Extends a b → length a.nets ≤ length b.nets
+extends_long a b e = let l : length b.nets ≡ length a.nets + length e.nets.0 = ap length e.nets.1 ∙ length-append a.nets e.nets.0 in omega arith
+
 pub late_none : (width : ℕ) (d : Draft) → CanFresh d → DeclaresLate 0 width [] d d
 late_none width d fresh = record {
   many = refl;
@@ -41,6 +44,7 @@ late_none width d fresh = record {
   names = λ name other new. new;
   late = λ x h. h;
   came = λ n low high. absurd (omega arith);
+  above = tt;
 }
 
 numbers_push : (ws : List Wire) (w : Wire) → numbers (ws ++ w ∷ []) ≡ numbers ws ++ w.number ∷ []
@@ -85,8 +89,12 @@ late_more count width made w a b c h is wire late stay fresh names =
       names = λ name other new. names name other (h.names name other new);
       late = λ x k. stay x (h.late x k);
       came = λ n low high. subst (λ ns. Among ns n) (sym (numbers_push made w)) (either n low (subst (λ k. n < k) long high) number (cases_lt n (length b.nets)));
+      above = All-join (λ (x : Wire). length a.nets ≤ x.number) made (w ∷ []) h.above (longer number, tt);
     }
   where
+    longer : w.number ≡ length b.nets → length a.nets ≤ w.number
+    longer e = let l = extends_long a b h.extends in omega arith
+
     either : (n : ℕ) → length a.nets ≤ n → n < length b.nets + 1 → w.number ≡ length b.nets → (n < length b.nets) ⊎ (length b.nets ≤ n) → Among (numbers made ++ w.number ∷ []) n
     either n low high number (inl lt) = among_front (numbers made) (w.number ∷ []) n (h.came n low lt)
     either n low high number (inr le) = let same : w.number ≡ n = omega arith in subst (λ k. Among (numbers made ++ w.number ∷ []) k) same (among_last (numbers made) w.number)

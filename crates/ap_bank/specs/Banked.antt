@@ -1,8 +1,9 @@
 -- A register file with all that belongs to it, in a processor's top.
-use Rattle.std.specs.Prelude.{◌≡◌, ◌≢◌, ◌⊎◌, ℕ, ◌<◌, ◌≤◌, List, Option, Some, None, length}
+use Rattle.std.specs.Prelude.{◌≡◌, ◌≢◌, ◌⊎◌, ℕ, ◌<◌, ◌≤◌, List, [], ◌∷◌, ◌++◌, Option, Some, None, length}
 use Rattle.std.specs.List.{AllByRecursion as Each}
 use Rattle.ap_desc.specs.declared.design.File.{File}
 use Rattle.ap_desc.specs.Designs.{index_bits}
+use Rattle.ap_net.specs.declared.cell.Wire.{Wire}
 use Rattle.ap_net.specs.declared.net.ModuleNet.{ModuleNet}
 use Rattle.ap_net.specs.Draft.{Draft, Extends, CanFresh, names_of}
 use Rattle.ap_net.specs.Late.{StayLate}
@@ -33,8 +34,8 @@ pub record ArePorts (f : File) (nets : List ModuleNet) (ports : List (Option Fil
   pub count : length ports ≡ f.writes
   pub each : Each (IsPort f nets) ports
 
--- The instance came, over wires for the indices, which are driven later, and the nets of its write ports. What else came is ready once
--- the indices are; all else stays.
+-- The instance came and no other, over new wires for the indices, which are driven later, and the nets of its write ports. What else came is
+-- ready once the indices are; all else stays.
 pub record BanksNew (f : File) (m : ModuleText) (ports : List (Option FileWrite)) (made : FileNets) (old new : Draft) : Type 0 where
   pub between : Draft
   pub writes : List FileWrite
@@ -50,3 +51,5 @@ pub record BanksNew (f : File) (m : ModuleText) (ports : List (Option FileWrite)
   pub names : (name : List ℕ) → IsNotNumbered name → file_part f ≢ name → IsNew name (names_of old) → IsNew name (names_of new)
   pub late : StayLate old new
   pub came : (by : Dependence) → NeedsAsFile by m.name → (n : ℕ) → length old.nets ≤ n → n < length new.nets → Among (numbers made.indices) n ⊎ ReadyAfter by new (numbers made.indices) n
+  pub above : Each (λ (w : Wire). length old.nets ≤ w.number) made.indices
+  pub instances : new.instances ≡ old.instances ++ placed.of ∷ []

@@ -1,5 +1,5 @@
 -- Fresh wires that are driven later.
-use Rattle.std.specs.Prelude.{◌≡◌, ℕ, List, length}
+use Rattle.std.specs.Prelude.{◌≡◌, ℕ, ◌≤◌, List, length}
 use Rattle.std.specs.List.{AllByRecursion as Each}
 use Rattle.ap_net.specs.declared.cell.Wire.{Wire}
 use Rattle.ap_net.specs.Draft.{Draft, Extends, CanFresh, KeepsNew}
@@ -13,7 +13,7 @@ pub record IsLateWide (d : Draft) (width : ℕ) (w : Wire) : Type 0 where
   pub late : IsLate d w
   pub wide : w.width ≡ width
 
--- So many wires of these bits came, no two of them one, each to be driven later; all else stays.
+-- So many wires of these bits came, no two of them one and none that was there before, each to be driven later; all else stays.
 pub record DeclaresLate (count width : ℕ) (made : List Wire) (old new : Draft) : Type 0 where
   pub many : length made ≡ count
   pub each : Each (IsLateWide new width) made
@@ -27,3 +27,4 @@ pub record DeclaresLate (count width : ℕ) (made : List Wire) (old new : Draft)
   pub names : KeepsNew old new
   pub late : StayLate old new
   pub came : CameAmong (numbers made) old new
+  pub above : Each (λ (w : Wire). length old.nets ≤ w.number) made

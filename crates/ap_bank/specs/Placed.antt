@@ -9,7 +9,7 @@ use Rattle.ap_net.specs.declared.net.ModuleNet.{ModuleNet}
 use Rattle.ap_net.specs.Cells.{IsNet}
 use Rattle.ap_net.specs.Draft.{Draft, Extends, CanFresh, names_of}
 use Rattle.ap_net.specs.Late.{StayLate}
-use Rattle.ap_net.specs.Modules.{ModuleText, module_named, ports_among}
+use Rattle.ap_net.specs.Modules.{Connects, ModuleText, module_named, ports_among}
 use Rattle.ap_net.specs.Names.{IsNew, IsNotNumbered}
 use Rattle.ap_net.specs.Opened.{SolvesPart}
 use Rattle.ap_net.specs.Pending.{CameAmong}
@@ -93,3 +93,4 @@ pub record PlacesFile (f : File) (m : ModuleText) (reads : List Wire) (writes : 
   pub late : StayLate old new
   pub came : CameAmong (numbers values) old new
   pub ready : (by : Dependence) → NeedsAsFile by m.name → EachPair (λ (index value : Wire). ReadyAfter by new (index.number ∷ []) value.number) reads values
+  pub connects : Connects m of

@@ -1,5 +1,5 @@
 -- What follows from the first part of a top.
-use Rattle.std.proofs.Common.{◌≡◌, ◌⊎◌, ⊎_elim, inl, inr, ℕ, zero, suc, ◌+◌, ◌<◌, ◌≤◌, List, [], ◌∷◌, ◌++◌, length, Option, Some, None, refl, sym, ap, subst, ◌∙◌, arith, append-nil}
+use Rattle.std.proofs.Common.{◌≡◌, ◌⊎◌, ⊎_elim, inl, inr, ℕ, zero, suc, ◌+◌, ◌<◌, ◌≤◌, List, [], ◌∷◌, ◌++◌, length, map, Option, Some, None, refl, sym, ap, subst, ◌∙◌, arith, append-nil}
 use Rattle.std.specs.Prelude.{flat_map, option_to_list, slice_get}
 use Rattle.std.specs.List.{AllByRecursion as Each, range_with_len}
 use Rattle.std.specs.Option.{option_map}
@@ -12,14 +12,16 @@ use Rattle.ap_model.specs.declared.storage.WritePort.{WritePort}
 use Rattle.ap_model.specs.declared.storage.WritePort.TheVariants as port
 use Rattle.ap_model.proofs.ListLemmas.{each_all, found_keeps}
 use Rattle.ap_net.specs.declared.cell.Wire.{Wire}
+use Rattle.ap_net.specs.declared.net.Instance.{Instance}
+use Rattle.ap_net.specs.declared.net.Port.{Port}
 use Rattle.ap_net.specs.Draft.{Draft, Extends}
-use Rattle.ap_net.specs.Modules.{ModuleText, module_named, ports_among}
+use Rattle.ap_net.specs.Modules.{IsInstanceIn, ModuleText, module_named, ports_among}
 use Rattle.ap_net.specs.Pending.{Among}
 use Rattle.ap_net.specs.Ready.{numbers}
 use Rattle.ap_net.proofs.Drafts.{Extends-trans}
 use Rattle.ap_net.proofs.Lists.{All-back, All-from, All-map, All-unmap, some_same}
 use Rattle.ap_net.proofs.Parts.{All-named}
-use Rattle.ap_ctl.proofs.Beside.{EachFrom-at, EachFrom-weaker}
+use Rattle.ap_ctl.proofs.Beside.{EachFrom-at, EachFrom-second, EachFrom-weaker}
 use Rattle.ap_flight.specs.declared.plan.Planned.{Planned}
 use Rattle.ap_flight.specs.Planned.{register_wires}
 use Rattle.ap_flight.proofs.Plans.{ports_registers, registers_count}
@@ -33,15 +35,16 @@ use Rattle.ap_bank.specs.Regs.{IsReg, reg_wires, regs_numbers, with_regs}
 use Rattle.ap_bank.proofs.BorderGiven.{IsNamed-later, IsReg-later}
 use Rattle.ap_bank.proofs.Declared.{ports_regs, regs_count}
 use Rattle.ap_bank.proofs.Driven.{takes_later}
-use Rattle.ap_store.specs.FilePorts.{file_module_name}
+use Rattle.ap_store.specs.FilePorts.{file_module_name, file_ports}
+use Rattle.ap_parts.proofs.KnownParts.{files_are_found, instances_fit}
 use Rattle.ap_front.specs.declared.ports.GroupPorts.{GroupPorts}
 use Rattle.ap_front.specs.NewNames.{ported}
 use Rattle.ap_front.specs.Opened.{front_plan}
 use Rattle.ap_front.proofs.Opened.{registers_extend}
 use Rattle.ap_front.proofs.Porting.{pairs_weaker}
 use Rattle.ap_lead.specs.Declaring.{opened}
-use Rattle.ap_lead.specs.Leading.{LeadGivesFiles, LeadGivesRegs, LeadsFollow, group_numbers, mem_write, output_numbers}
-use Rattle.ap_lead.specs.Storing.{IsStored}
+use Rattle.ap_lead.specs.Leading.{FilesAreInstances, LeadGivesFiles, LeadGivesRegs, LeadsFollow, group_numbers, mem_write, output_numbers}
+use Rattle.ap_lead.specs.Storing.{IsInstanceOf, IsStored}
 use Rattle.ap_lead.specs.Writes.{file_writes, is_of, outputs_of, reg_write, reg_write_of, reg_writes}
 use Rattle.ap_lead.proofs.Declaring.{regs_extend}
 use Rattle.ap_lead.proofs.PortsListed.{each_self, ports_listed}
@@ -72,9 +75,9 @@ cell_named_later : (design : Design) (a b : Draft) → Extends a b → (file num
 cell_named_later design a b e file number None h = h
 cell_named_later design a b e file number (Some w) h = (h.0, IsNamed-later e h.1, IsNamed-later e h.2, IsNamed-later e h.3)
 
--- of the module the name alone matters
-over_named : (f : File) (m x : ModuleText) (ports : List (Option FileWrite)) (nets : FileNets) (a b : Draft) → m.name ≡ x.name → BanksNew f m ports nets a b → BanksNew f x ports nets a b
-over_named f m x ports nets a b same h =
+-- of the module its name and its ports alone matter
+over_named : (f : File) (m x : ModuleText) (ports : List (Option FileWrite)) (nets : FileNets) (a b : Draft) → m.name ≡ x.name → m.ports ≡ x.ports → BanksNew f m ports nets a b → BanksNew f x ports nets a b
+over_named f m x ports nets a b same has h =
     let p = h.placed in
     let part = p.part in
     let ready = p.ready in
@@ -101,6 +104,7 @@ over_named f m x ports nets a b same h =
         late = p.late;
         came = p.came;
         ready = rw same at ready;
+        connects = record { named = p.connects.named ∙ same; widths = p.connects.widths ∙ ap (map (λ (q : Port). q.width)) has; drives = p.connects.drives ∙ ap (map (λ (q : Port). q.output)) has };
       };
       count = h.count;
       late_indices = h.late_indices;
@@ -112,9 +116,11 @@ over_named f m x ports nets a b same h =
       names = h.names;
       late = h.late;
       came = rw same at came;
+      above = h.above;
+      instances = h.instances;
     }
 
-there : {X : Type 0} (xs : List X) (i : ℕ) → i < length xs → (x : X) × (slice_get xs i ≡ Some x)
+pub there : {X : Type 0} (xs : List X) (i : ℕ) → i < length xs → (x : X) × (slice_get xs i ≡ Some x)
 there [] i lt = absurd (omega arith)
 there (x ∷ xs) zero lt = (x, refl)
 there (x ∷ xs) (suc i) lt = there xs i (omega arith)
@@ -146,11 +152,19 @@ lead_gives_files design stages made a d knows cards modules clean parts h e file
         count = shown.fit.count;
         old = stored.before;
         new = stored.after;
-        banks = over_named f s.whole m.whole (file_writes made.declared.ports.groups file f.writes) nets.0 stored.before stored.after (s.named ∙ ap file_module_name same ∙ sym m_named) banks;
+        banks = over_named f s.whole m.whole (file_writes made.declared.ports.groups file f.writes) nets.0 stored.before stored.after (s.named ∙ ap file_module_name same ∙ sym m_named) (s.has ∙ ap file_ports same ∙ sym m.is_file.ports) banks;
         grows = Extends-trans stored.after a d stored.grows e;
         named = EachFrom-weaker (IsNamedPort design h.first file) (IsNamedPort design d file) (λ n o k. cell_named_later design h.first d from_first file n o k) 0 (file_writes made.declared.ports.groups file f.writes) shown.named;
       };
     }
+
+pub files_are_instances : FilesAreInstances
+files_are_instances knows cards design modules stages made new parts h = EachFrom-second (IsInstanceOf design) (IsInstanceIn modules) one 0 h.stores.placed h.stores.are
+  where
+    one : (file : ℕ) (i : Instance) → IsInstanceOf design file i → IsInstanceIn modules i
+    one file i x =
+        let known = files_are_found knows cards design modules parts file x.f x.at in
+        instances_fit modules x.whole i x.connects (record { whole = known.whole; found = ap (module_named modules) x.named ∙ known.found; has = known.has ∙ sym x.has })
 
 -- What came.
 
@@ -211,7 +225,7 @@ leads_follow by design stages made new h needs =
         h.drives.came by,
       );
       filed = h.stores.came by needs;
-      files = h.stores.extends.instances.0;
+      files = h.stores.placed;
       grows = (
         record { extends = registers_extend a plan; instances = sym (append-nil a.instances); ports = ports_registers a plan },
         (
@@ -222,8 +236,9 @@ leads_follow by design stages made new h needs =
           },
           (
             record { extends = h.drives.extends; instances = h.drives.instances ∙ sym (append-nil h.first.instances); ports = h.drives.ports },
-            (record { extends = h.stores.extends; instances = h.stores.extends.instances.1; ports = h.stores.same_ports }, tt),
+            (record { extends = h.stores.extends; instances = h.stores.instances; ports = h.stores.same_ports }, tt),
           ),
         ),
       );
+      files_are = refl;
     }

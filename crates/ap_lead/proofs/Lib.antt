@@ -5,3 +5,8 @@ pub mod ShownWrites
 pub mod Stored
 pub mod PortsListed
 pub mod Led
+pub mod SeenNets
+pub mod Decimals
+pub mod IdlePorts
+pub mod Pigeons
+pub mod Leaving

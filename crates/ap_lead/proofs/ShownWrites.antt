@@ -16,7 +16,7 @@ use Rattle.ap_model.proofs.PortsOnce.{same_port}
 use Rattle.ap_net.specs.declared.cell.Wire.{Wire}
 use Rattle.ap_net.specs.Draft.{Draft, IsKept}
 use Rattle.ap_net.specs.Outside.{Group, group_name, output}
-use Rattle.ap_net.proofs.Lists.{All-map}
+use Rattle.ap_net.proofs.Lists.{All-from, All-map}
 use Rattle.ap_signals.specs.DesignOutside.{file_group, group_of, reg_group}
 use Rattle.ap_border.specs.Named.{IsNamed}
 use Rattle.ap_ctl.specs.Lists.{EachPair}
@@ -80,7 +80,7 @@ stand_for design d [] (g ∷ groups) h k = absurd h
 stand_for design d (q ∷ ps) [] h k = absurd h
 stand_for design d (q ∷ ps) (g ∷ groups) h k = (subst (λ p. StandsFor design d p g) (sym h.0.of) (k.0, h.0.ports), stand_for design d ps groups h.1 k.1)
 
-shown : (design : Design) (d : Draft) (p : WritePort) (groups : List GroupPorts) → EachPair (ArePortsOf design d) (write_groups design) groups → (Each (λ q. q ≢ p) (write_groups design) → is_used design p ≡ false) → IsShown design d p (outputs_of p groups)
+pub shown : (design : Design) (d : Draft) (p : WritePort) (groups : List GroupPorts) → EachPair (ArePortsOf design d) (write_groups design) groups → (Each (λ q. q ≢ p) (write_groups design) → is_used design p ≡ false) → IsShown design d p (outputs_of p groups)
 shown design d p groups h none = go (outputs_of p groups) refl
   where
     go : (o : Option GroupPorts) → outputs_of p groups ≡ o → IsShown design d p o
@@ -88,6 +88,10 @@ shown design d p groups h none = go (outputs_of p groups) refl
     go (Some g) e =
         let same = same_port p g.port (found_passes (λ (x : GroupPorts). is_same_port p x.port) groups g e) in
         subst (λ q. StandsFor design d q g) (sym same) (found_keeps (λ (x : GroupPorts). StandsFor design d x.port x) (λ (x : GroupPorts). is_same_port p x.port) groups g e (stand_for design d (write_groups design) groups h (groups_used design)))
+
+-- each group's port is used
+pub uses_each : (design : Design) (d : Draft) (ps : List WritePort) (groups : List GroupPorts) → EachPair (ArePortsOf design d) ps groups → Each (λ q. is_used design q ≡ true) ps → Each (λ (g : GroupPorts). is_used design g.port ≡ true) groups
+uses_each design d ps groups h k = All-from (λ (g : GroupPorts). StandsFor design d g.port g) (λ (g : GroupPorts). is_used design g.port ≡ true) (λ g s. s.0) groups (stand_for design d ps groups h k)
 
 -- Registers.
 

@@ -1,24 +1,33 @@
 -- Files that are placed one after the other.
-use Rattle.std.proofs.Common.{◌≡◌, ◌≢◌, ◌⊎◌, inl, inr, ⊎_elim, ℕ, zero, suc, ◌+◌, ◌<◌, ◌≤◌, List, [], ◌∷◌, ◌++◌, length, map, drop, Some, refl, sym, ap, subst, ◌∙◌, arith, append-nil}
+use Rattle.std.proofs.Common.{◌≡◌, ◌≢◌, ◌⊎◌, inl, inr, ⊎_elim, ℕ, zero, suc, ◌+◌, ◌<◌, ◌≤◌, List, [], ◌∷◌, ◌++◌, length, map, drop, Some, refl, sym, ap, subst, ◌∙◌, arith, append-nil, append_assoc, length-append}
 use Rattle.std.specs.Prelude.{slice_get}
+use Rattle.std.specs.List.{AllByRecursion as Each}
 use Rattle.std.proofs.lemmas.Bool.{cases_lt}
 use Rattle.ap_desc.specs.declared.design.Design.{Design}
 use Rattle.ap_desc.specs.declared.design.File.{File}
-use Rattle.ap_model.proofs.ListLemmas.{flat_map_both}
+use Rattle.ap_desc.specs.Designs.{index_bits}
+use Rattle.ap_model.proofs.ListLemmas.{each_flat_map, flat_map_both}
+use Rattle.ap_net.specs.declared.cell.Wire.{Wire}
+use Rattle.ap_net.specs.declared.net.Instance.{Instance}
 use Rattle.ap_net.specs.Draft.{CanFresh, Draft, Extends}
+use Rattle.ap_net.specs.Late.{IsLate}
 use Rattle.ap_net.specs.Names.{AreDistinct}
 use Rattle.ap_net.specs.Pending.{Among}
 use Rattle.ap_net.specs.Ready.{Dependence, Ready, ReadyAfter, numbers}
+use Rattle.ap_net.specs.Wiring.{NoneTwice}
 use Rattle.ap_net.proofs.Drafts.{Extends-refl, Extends-trans}
 use Rattle.ap_net.proofs.Laws.{IsNotNumbered-other}
-use Rattle.ap_net.proofs.Lists.{All-at, All-back, All-front, All-unmap, some_same}
+use Rattle.ap_net.proofs.Lists.{All-at, All-back, All-from, All-front, All-join, All-map, All-unmap, some_same}
+use Rattle.ap_net.proofs.Wired.{number-IsNet}
 use Rattle.ap_signals.specs.NetRuns.{file_part}
 use Rattle.ap_store.specs.FilePorts.{file_module_name}
 use Rattle.ap_bank.specs.declared.bank.FileNets.{FileNets}
+use Rattle.ap_bank.specs.LateNets.{IsLateWide}
 use Rattle.ap_bank.specs.Placed.{NeedsAsFile}
+use Rattle.ap_bank.proofs.LateMade.{extends_long}
 use Rattle.ap_ctl.proofs.Beside.{EachFrom-push, EachFrom-weaker}
 use Rattle.ap_front.specs.declared.ports.GroupPorts.{GroupPorts}
-use Rattle.ap_lead.specs.Storing.{FilesAreKnown, FilesNeed, HasNoFiles, IsStored, StoresFile, StoresFiles, index_numbers}
+use Rattle.ap_lead.specs.Storing.{FilesAreKnown, FilesNeed, HasNoFiles, IsInstanceOf, IsStored, StoresFile, StoresFiles, index_numbers}
 
 pub among_left : (xs ys : List ℕ) (n : ℕ) → Among xs n → Among (xs ++ ys) n
 among_left [] ys n h = absurd h
@@ -48,11 +57,35 @@ stores_none design groups d fresh = record {
   names = λ name other apart new. new;
   late = λ x h. h;
   came = λ by needs n low high. absurd (omega (arith, low, high));
+  placed = [];
+  count = refl;
+  instances = sym (append-nil d.instances);
+  are = tt;
+  late_indices = tt;
+  above = tt;
+  apart = tt;
 }
+
+-- numbers below one and numbers from it on
+apart_join : (xs ys : List ℕ) (n : ℕ) → NoneTwice xs → NoneTwice ys → Each (λ x. x < n) xs → Each (λ y. n ≤ y) ys → NoneTwice (xs ++ ys)
+apart_join [] ys n h g low high = g
+apart_join (x ∷ xs) ys n h g low high =
+    (All-join (λ y. y ≢ x) xs ys h.0 (All-from (λ y. n ≤ y) (λ y. y ≢ x) (λ y le e. let lt = low.0 in absurd (omega (arith, le, e, lt))) ys high), apart_join xs ys n h.1 g low.1 high)
+
+-- what is late is there
+late_below : (d : Draft) (made : List FileNets) → Each (λ (n : FileNets). Each (IsLate d) n.indices) made → Each (λ k. k < length d.nets) (index_numbers made)
+late_below d made h = each_flat_map (λ k. k < length d.nets) (λ (n : FileNets). numbers n.indices) made
+    (All-from (λ (n : FileNets). Each (IsLate d) n.indices) (λ (n : FileNets). Each (λ k. k < length d.nets) (numbers n.indices))
+    (λ n k. All-map (λ m. m < length d.nets) (λ (w : Wire). w.number) n.indices (All-from (IsLate d) (λ (w : Wire). w.number < length d.nets) (λ w l. number-IsNet d.nets w l.net) n.indices k)) made h)
 
 pub stores_more : (design : Design) (groups : List GroupPorts) (made : List FileNets) (nets : FileNets) (a b c : Draft) → StoresFiles design groups made a b → StoresFile design groups (length made) nets b c → StoresFiles design groups (made ++ nets ∷ []) a c
 stores_more design groups made nets a b c h s =
     let grows : Extends b c = s.banks.extends in
+    let of : Instance = s.banks.placed.of in
+    let one : IsInstanceOf design (length made) of = record { f = s.f; at = s.at; whole = s.whole; named = s.named; has = s.has; connects = s.banks.placed.connects } in
+    let last : length made ≡ 0 + length h.placed = let count = h.count in omega (arith, count) in
+    let long = extends_long a b h.extends in
+    let high : Each (λ n. length b.nets ≤ n) (numbers nets.indices) = All-map (λ n. length b.nets ≤ n) (λ (w : Wire). w.number) nets.indices s.banks.above in
     record {
       each = EachFrom-push (IsStored design groups c) 0 made nets
           (EachFrom-weaker (IsStored design groups b) (IsStored design groups c) (λ n x k. record { before = k.before; after = k.after; stores = k.stores; grows = Extends-trans k.after b c k.grows grows }) 0 made h.each)
@@ -64,6 +97,16 @@ stores_more design groups made nets a b c h s =
       names = λ name other apart new. s.banks.names name other (All-at (λ (f : File). file_part f ≢ name) design.files (length made) s.f apart s.at) (h.names name other apart new);
       late = λ x k. s.banks.late x (h.late x k);
       came = λ by needs n low high. subst (λ l. Among l n ⊎ ReadyAfter by c l n) (sym (more_numbers made nets)) (came by needs n low high);
+      placed = h.placed ++ of ∷ [];
+      count = length-append h.placed (of ∷ []) ∙ ap (λ n. n + 1) h.count ∙ sym (length-append made (nets ∷ []));
+      instances = s.banks.instances ∙ ap (λ l. l ++ of ∷ []) h.instances ∙ append_assoc a.instances h.placed (of ∷ []);
+      are = EachFrom-push (IsInstanceOf design) 0 h.placed of h.are (subst (λ n. IsInstanceOf design n of) last one);
+      late_indices = All-join (λ (n : FileNets). Each (IsLate c) n.indices) made (nets ∷ [])
+          (All-from (λ (n : FileNets). Each (IsLate b) n.indices) (λ (n : FileNets). Each (IsLate c) n.indices) (λ n k. All-from (IsLate b) (IsLate c) s.banks.late n.indices k) made h.late_indices)
+          (All-from (IsLateWide c (index_bits s.f)) (IsLate c) (λ w k. k.late) nets.indices s.banks.late_indices, tt);
+      above = subst (Each (λ n. length a.nets ≤ n)) (sym (more_numbers made nets)) (All-join (λ n. length a.nets ≤ n) (index_numbers made) (numbers nets.indices) h.above
+          (All-from (λ n. length b.nets ≤ n) (λ n. length a.nets ≤ n) (λ n le. omega (arith, le, long)) (numbers nets.indices) high));
+      apart = subst NoneTwice (sym (more_numbers made nets)) (apart_join (index_numbers made) (numbers nets.indices) (length b.nets) h.apart s.banks.apart (late_below b made h.late_indices) high);
     }
   where
     came : (by : Dependence) → FilesNeed by design → (n : ℕ) → length a.nets ≤ n → n < length c.nets → Among (index_numbers made ++ numbers nets.indices) n ⊎ ReadyAfter by c (index_numbers made ++ numbers nets.indices) n

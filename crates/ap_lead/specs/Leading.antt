@@ -1,12 +1,13 @@
 -- What the first part of a top gives: to the border, and to the order in which nets are ready.
 use Rattle.std.specs.Prelude.{◌≡◌, ◌⊎◌, ℕ, ◌<◌, ◌≤◌, List, [], ◌∷◌, ◌++◌, flat_map, length, map, option_to_list, slice_get, Some}
+use Rattle.std.specs.List.{AllByRecursion as Each}
 use Rattle.ap_bits.specs.declared.card.Card.{Card}
 use Rattle.ap_desc.specs.Clean.{IsClean}
 use Rattle.ap_desc.specs.declared.design.Design.{Design}
 use Rattle.ap_desc.specs.declared.design.File.{File}
 use Rattle.ap_net.specs.declared.net.Instance.{Instance}
 use Rattle.ap_net.specs.Draft.{Draft, Extends}
-use Rattle.ap_net.specs.Modules.{ModuleText}
+use Rattle.ap_net.specs.Modules.{IsInstanceIn, ModuleText}
 use Rattle.ap_net.specs.Pending.{Among, CameAmong}
 use Rattle.ap_net.specs.Ready.{Dependence, ReadyAfter, numbers}
 use Rattle.ap_pipe.specs.declared.table.StageSlots.{StageSlots}
@@ -43,6 +44,11 @@ LeadGivesFiles = (design : Design) (stages : List StageSlots) (made : Lead) (a d
     → HasParts knows cards design modules → Leads design stages made a → Extends a d
     → (file : ℕ) (f : File) → slice_get design.files file ≡ Some f → HasBanked design d modules made file f
 
+-- Each instance of a file is one of any modules that have the design's parts.
+abbrev pub FilesAreInstances : Type 0
+FilesAreInstances = (knows : Knows) (cards : List Card) (design : Design) (modules : List ModuleText) (stages : List StageSlots) (made : Lead) (new : Draft)
+    → HasParts knows cards design modules → (h : Leads design stages made new) → Each (IsInstanceIn modules) h.stores.placed
+
 -- The numbers of the ports: the inputs but the word that is fetched; where a memory is read, and what is read; the outputs at which the writes
 -- of memories, registers and files are shown.
 abbrev pub given_numbers : Ports → List ℕ
@@ -77,6 +83,7 @@ pub record LeadFollows (by : Dependence) (design : Design) (stages : List StageS
   pub filed : (k : ℕ) → length h.driven.nets ≤ k → k < length new.nets → Among (index_numbers made.files) k ⊎ ReadyAfter by new (index_numbers made.files) k
   pub files : List Instance
   pub grows : AtEachStep Grows (ported design) (steps_to (opened design stages) h.first h.driven new files)
+  pub files_are : files ≡ h.stores.placed
 
 abbrev pub LeadsFollow : Type 0
 LeadsFollow = (by : Dependence) (design : Design) (stages : List StageSlots) (made : Lead) (new : Draft) (h : Leads design stages made new) → FilesNeed by design

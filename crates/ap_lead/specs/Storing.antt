@@ -1,14 +1,16 @@
 -- The storages of a processor's top: its registers take what is written, and its files are instances.
-use Rattle.std.specs.Prelude.{◌≡◌, ◌≢◌, ◌⊎◌, ℕ, ◌<◌, ◌≤◌, List, drop, flat_map, length, slice_get, Some}
+use Rattle.std.specs.Prelude.{◌≡◌, ◌≢◌, ◌⊎◌, ℕ, ◌<◌, ◌≤◌, List, ◌++◌, drop, flat_map, length, slice_get, Some}
 use Rattle.std.specs.List.{AllByRecursion as Each}
 use Rattle.ap_desc.specs.declared.design.Design.{Design}
 use Rattle.ap_desc.specs.declared.design.File.{File}
+use Rattle.ap_net.specs.declared.net.Instance.{Instance}
 use Rattle.ap_net.specs.Draft.{CanFresh, Draft, Extends, IsKept, names_of}
-use Rattle.ap_net.specs.Late.{StayLate}
-use Rattle.ap_net.specs.Modules.{ModuleText, ports_among}
+use Rattle.ap_net.specs.Late.{IsLate, StayLate}
+use Rattle.ap_net.specs.Modules.{Connects, ModuleText, ports_among}
 use Rattle.ap_net.specs.Names.{IsNew, IsNotNumbered}
 use Rattle.ap_net.specs.Pending.{Among}
 use Rattle.ap_net.specs.Ready.{Dependence, ReadyAfter, numbers}
+use Rattle.ap_net.specs.Wiring.{NoneTwice}
 use Rattle.ap_pipe.specs.declared.table.StageSlots.{StageSlots}
 use Rattle.ap_signals.specs.NetRuns.{file_part}
 use Rattle.ap_store.specs.FilePorts.{file_module_name, file_ports}
@@ -47,6 +49,7 @@ pub record StoresFile (design : Design) (groups : List GroupPorts) (file : ℕ) 
   pub whole : ModuleText
   pub named : whole.name ≡ file_module_name f
   pub banks : BanksNew f whole (file_writes groups file f.writes) nets old new
+  pub has : whole.ports ≡ file_ports f
 
 -- it came while the draft grew to this one
 pub record IsStored (design : Design) (groups : List GroupPorts) (d : Draft) (file : ℕ) (nets : FileNets) : Type 0 where
@@ -55,12 +58,21 @@ pub record IsStored (design : Design) (groups : List GroupPorts) (d : Draft) (fi
   pub stores : StoresFile design groups file nets before after
   pub grows : Extends after d
 
+-- the instance of the file of this number: of a module with its name and its ports
+pub record IsInstanceOf (design : Design) (file : ℕ) (i : Instance) : Type 0 where
+  pub f : File
+  pub at : slice_get design.files file ≡ Some f
+  pub whole : ModuleText
+  pub named : whole.name ≡ file_module_name f
+  pub has : whole.ports ≡ file_ports f
+  pub connects : Connects whole i
+
 -- the indices at the read ports of files
 abbrev pub index_numbers : List FileNets → List ℕ
 index_numbers made = flat_map (λ (n : FileNets). numbers n.indices) made
 
--- The first so many files came, one after the other. What came is an index, which is driven later, or ready once the indices are; all else
--- stays.
+-- The first so many files came, one after the other, an instance each and no other. What came is an index, which is driven later, or ready
+-- once the indices are; all else stays. No two indices are one, and none was there before.
 pub record StoresFiles (design : Design) (groups : List GroupPorts) (made : List FileNets) (old new : Draft) : Type 0 where
   pub each : EachFrom (IsStored design groups new) 0 made
   pub extends : Extends old new
@@ -70,6 +82,13 @@ pub record StoresFiles (design : Design) (groups : List GroupPorts) (made : List
   pub names : (name : List ℕ) → IsNotNumbered name → Each (λ (f : File). file_part f ≢ name) design.files → IsNew name (names_of old) → IsNew name (names_of new)
   pub late : StayLate old new
   pub came : (by : Dependence) → FilesNeed by design → (n : ℕ) → length old.nets ≤ n → n < length new.nets → Among (index_numbers made) n ⊎ ReadyAfter by new (index_numbers made) n
+  pub placed : List Instance
+  pub count : length placed ≡ length made
+  pub instances : new.instances ≡ old.instances ++ placed
+  pub are : EachFrom (IsInstanceOf design) 0 placed
+  pub late_indices : Each (λ (n : FileNets). Each (IsLate new) n.indices) made
+  pub above : Each (λ n. length old.nets ≤ n) (index_numbers made)
+  pub apart : NoneTwice (index_numbers made)
 
 -- The first part of a top: all that is declared, then what the registers take, then the files.
 pub record Leads (design : Design) (stages : List StageSlots) (made : Lead) (new : Draft) : Type 0 where

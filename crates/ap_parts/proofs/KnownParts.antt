@@ -1,6 +1,7 @@
 -- What a top knows of its modules holds: of those that are built, and of any that have the parts.
-use Rattle.std.proofs.Common.{◌≡◌, ℕ, ◌+◌, ◌&&◌, Bool, true, false, List, [], map, Some, nat_lt, refl, sym, ap, subst, ◌∙◌}
-use Rattle.std.specs.Prelude.{if◌then◌else◌, slice_get}
+use Rattle.std.proofs.Common.{◌≡◌, ℕ, ◌+◌, ◌≤◌, ◌&&◌, Bool, true, false, List, [], ◌∷◌, length, map, Option, None, Some, nat_lt, refl, sym, ap, subst, ◌∙◌, arith}
+use Rattle.std.specs.Prelude.{if◌then◌else◌, position, slice_get}
+use Rattle.std.proofs.lemmas.List.{length-append}
 use Rattle.std.specs.Option.{option_map_or}
 use Rattle.std.specs.Str.{bytes_eq}
 use Rattle.std.proofs.lemmas.Bool.{and_parts, lt-ltb}
@@ -20,11 +21,22 @@ use Rattle.ap_store.specs.FileModules.{file_needs}
 use Rattle.ap_store.specs.FilePorts.{file_ports}
 use Rattle.ap_unit.specs.Slow.{slow_needs}
 use Rattle.ap_parts.specs.Known.{AreKnown, FilesAreFound, FilesNeed, HasUnitNamed, InstancesFit, StandsThere, UnitsAreFound, UnitsNeed, is_file_name, is_slow_name, known_by, known_ports}
-use Rattle.ap_parts.specs.Parts.{AreBuilt, HasFileModule, StandsAt, file_module_name, kind_of, kinds_of, unit_module_name}
+use Rattle.ap_parts.specs.Parts.{AreBuilt, HasFileModule, IsKindModule, StandsAt, file_module_name, is_alike, kind_of, kinds_of, unit_module_name, with_kind, with_kind_at}
+use Rattle.ap_parts.specs.declared.modules.KindWidth.{KindWidth}
 use Rattle.ap_parts.proofs.BuiltParts.{file_at, kind_named, unit_at}
 use Rattle.ap_parts.proofs.FileNames.{file_is_no_kind}
 use Rattle.ap_parts.proofs.KnownPorts.{card_at, ports_known}
 use Rattle.ap_parts.proofs.Lists.{any_at, any_there, pairs_from}
+
+-- no more kinds and widths are gathered than there are units
+with_count : (kinds : List KindWidth) (p : KindWidth) (o : Option ℕ) → length (with_kind_at o kinds p) ≤ length kinds + 1
+with_count kinds p None = omega (arith, length-append kinds (p ∷ []))
+with_count kinds p (Some place) = omega arith
+
+kinds_count : (kinds : List KindWidth) (units : List Resource) → length (kinds_of kinds units) ≤ length kinds + length units
+kinds_count kinds [] = omega arith
+kinds_count kinds (u ∷ units) =
+    omega (arith, kinds_count (with_kind kinds (kind_of u)) units, with_count kinds (kind_of u) (position (is_alike (kind_of u)) kinds))
 
 module _ (cards : List Card) (design : Design) (modules : List ModuleText) (places : List ℕ) (kinds : ℕ)
     (fits : FitsCards design cards) (built : AreBuilt cards design modules places kinds) where
@@ -52,11 +64,19 @@ module _ (cards : List Card) (design : Design) (modules : List ModuleText) (plac
       let (m, m_at, is) = file_at cards design modules places kinds fits built file f at in
       record { whole = m; at = m_at; named = is.name; has = is.is_file.ports }
 
+  all : length modules ≡ length built.firsts + length built.adds.files
+  all = ap length built.adds.is ∙ length-append built.firsts built.adds.files
+
+  firsts_count : length built.firsts ≡ length (kinds_of [] design.units)
+  firsts_count = EachPair-length (IsKindModule cards) (kinds_of [] design.units) built.firsts built.are_kinds
+
   pub are_known : AreKnown (known_by cards) design modules places kinds
   are_known = record {
     units = pairs_from UnitStands design.units places
         (EachPair-length (StandsAt (kinds_of [] design.units)) design.units places built.stand) unit_stands;
     files = file_stands;
+    within = omega (arith, all, built.count);
+    few = omega (arith, all, firsts_count, kinds_count [] design.units, built.adds.are.count_is);
   }
 
 -- Any modules that have the parts.

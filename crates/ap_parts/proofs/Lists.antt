@@ -7,7 +7,7 @@ use Rattle.std.proofs.lemmas.List.Sums.{prefix_len_passes}
 use Rattle.std.proofs.lemmas.Option.{get_or_from_slice_get, slice_get_within}
 use Rattle.ap_ctl.specs.Lists.{EachPair}
 use Rattle.ap_net.specs.Names.{AreDistinct}
-use Rattle.ap_net.proofs.Lists.{All-at, All-front, All-join, All-map, some_same}
+use Rattle.ap_net.proofs.Lists.{All-front, All-join, All-map, some_same}
 
 -- what passes is among those of which some pass, and back
 pub any_at : {X : Type 0} (t : X → Bool) (xs : List X) (k : ℕ) (x : X) → slice_get xs k ≡ Some x → t x ≡ true → list_any t xs ≡ true

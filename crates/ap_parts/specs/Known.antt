@@ -1,5 +1,5 @@
 -- What a top knows of the modules whose instances it has, and when modules have all that a top needs.
-use Rattle.std.specs.Prelude.{◌≡◌, ◌≢◌, ℕ, ◌+◌, ◌<◌, ◌&&◌, nat_lt, List, [], codes, map, slice_get, Some, if◌then◌else◌, true, Bool, unwrap_or}
+use Rattle.std.specs.Prelude.{◌≡◌, ◌≢◌, ℕ, ◌+◌, ◌<◌, ◌≤◌, ◌&&◌, nat_lt, List, [], codes, length, map, slice_get, Some, if◌then◌else◌, true, Bool, unwrap_or}
 use Rattle.std.specs.List.{AllByRecursion as Each, list_any}
 use Rattle.std.specs.Option.{option_map_or}
 use Rattle.std.specs.Str.{bytes_eq}
@@ -90,10 +90,12 @@ pub record StandsThere (modules : List ModuleText) (place : ℕ) (name : List �
   pub has : whole.ports ≡ ports
 
 -- So a top can place an instance of each: the module of each unit stands at the unit's place, and those of the files stand behind those of the
--- kinds, in the order of the files.
+-- kinds, in the order of the files. There are no more of them than units and files.
 pub record AreKnown (knows : Knows) (design : Design) (modules : List ModuleText) (places : List ℕ) (kinds : ℕ) : Type 0 where
   pub units : EachPair (λ (u : Resource) (place : ℕ). StandsThere modules place (knows.names u) (known_ports knows u)) design.units places
   pub files : (file : ℕ) (f : File) → slice_get design.files file ≡ Some f → StandsThere modules (kinds + file) (file_module_name f) (file_ports f)
+  pub within : kinds ≤ length modules
+  pub few : length modules ≤ length design.units + length design.files
 
 -- The first module of this name has these ports.
 pub record IsFoundWith (modules : List ModuleText) (name : List ℕ) (ports : List Port) : Type 0 where

@@ -1,5 +1,5 @@
 -- Units that are placed, one after the other.
-use Rattle.std.proofs.Common.{◌≡◌, ◌≢◌, ℕ, zero, suc, ◌+◌, ◌<◌, ◌≤◌, ◌&&◌, ◌||◌, Bool, true, false, if◌then◌else◌, List, [], ◌∷◌, ◌++◌, filter, flat_map, length, map, refl, sym, ap, subst, ◌∙◌, arith, inl, inr, length-append}
+use Rattle.std.proofs.Common.{◌≡◌, ◌≢◌, ℕ, zero, suc, ◌+◌, ◌<◌, ◌≤◌, ◌&&◌, ◌||◌, Bool, true, false, if◌then◌else◌, List, [], ◌∷◌, ◌++◌, filter, flat_map, length, map, refl, sym, ap, subst, ◌∙◌, arith, inl, inr, append-nil, append_assoc, length-append}
 use Rattle.std.specs.Prelude.{◌⊎◌, nat_lt, not, slice_get, Option, Some, None}
 use Rattle.std.specs.Option.{option_map_or}
 use Rattle.std.specs.List.{AllByRecursion as Each, list_all, list_any, range_with_len}
@@ -27,7 +27,7 @@ use Rattle.ap_net.proofs.Wired.{number-IsNet}
 use Rattle.ap_signals.specs.NetRuns.{unit_part}
 use Rattle.ap_ctl.specs.Given.{is_slow_unit}
 use Rattle.ap_slow.specs.declared.place.SlowPlaced.{SlowPlaced}
-use Rattle.ap_slow.specs.Placed.{AddsParts, AreNewParts, IsPlaced, NeedAsSlow, PlacesOwn, PlacesUnit, PlacesUnits, StandsAt, late_nets, part_name}
+use Rattle.ap_slow.specs.Placed.{AddsParts, AreNewParts, IsOfUnit, IsPlaced, NeedAsSlow, PlacesOwn, PlacesUnit, PlacesUnits, StandsAt, late_nets, part_name, port_nets}
 use Rattle.ap_slow.proofs.Lates.{adds_more, adds_none, among_back, among_front, extends_long}
 use Rattle.ap_slow.proofs.PlacedOne.{stands_later}
 
@@ -40,6 +40,10 @@ numbers_append (x ∷ xs) ys = ap (λ l. x.number ∷ l) (numbers_append xs ys)
 flat_push : (made : List SlowPlaced) (x : SlowPlaced) → flat_map late_nets (made ++ x ∷ []) ≡ flat_map late_nets made ++ late_nets x
 flat_push [] x = refl
 flat_push (y ∷ made) x = ap (λ l. y.inputs.sel ∷ y.inputs.a ∷ y.inputs.b ∷ y.inputs.go ∷ y.inputs.adv ∷ l) (flat_push made x)
+
+ports_push : (made : List SlowPlaced) (x : SlowPlaced) → flat_map port_nets (made ++ x ∷ []) ≡ flat_map port_nets made ++ port_nets x
+ports_push [] x = refl
+ports_push (y ∷ made) x = ap (λ l. port_nets y ++ l) (ports_push made x)
 
 units_push : (made : List SlowPlaced) (x : SlowPlaced) → map (λ (y : SlowPlaced). y.unit) (made ++ x ∷ []) ≡ map (λ (y : SlowPlaced). y.unit) made ++ x.unit ∷ []
 units_push [] x = refl
@@ -67,7 +71,11 @@ placed_none design modules places d fresh = record {
   above = tt;
   apart = tt;
   adds = adds_none d fresh;
-  instances = omega arith;
+  parts = [];
+  instances = sym (append-nil d.instances);
+  own = tt;
+  count = refl;
+  nets = λ n low high. absurd (omega arith);
   came = λ by needs n low high. absurd (omega arith);
 }
 
@@ -81,8 +89,6 @@ module _ (design : Design) (modules : List ModuleText) (places : List ℕ) where
       let old : List Wire = flat_map late_nets made in
       let longer = extends_long a b h.adds.extends in
       let l = length-append made (x ∷ []) in
-      let i = h.instances in
-      let j = p.instances in
       let part : unit_part u ≡ part_name design n = sym (ap (λ (o : Option Resource). option_map_or unit_part o []) at) in
       record {
         are = units_push made x ∙ ap (λ l. l ++ x.unit ∷ []) h.are ∙ ap (λ m. units ++ m ∷ []) same;
@@ -94,12 +100,23 @@ module _ (design : Design) (modules : List ModuleText) (places : List ℕ) where
         apart = subst NoneTwice (sym (all_numbers made x)) (apart_join b old (late_nets x) h.late p.above h.apart p.apart);
         adds = subst (λ l. AddsParts l a c) (sym (parts_push design units n))
             (adds_more (map (part_name design) units) (part_name design n ∷ []) a b c h.adds (subst (λ name. AddsParts (name ∷ []) b c) part p.adds));
-        instances = omega arith;
+        parts = h.parts ++ (p.stands).of ∷ [];
+        instances = p.instances ∙ ap (λ k. k ++ (p.stands).of ∷ []) h.instances ∙ append_assoc a.instances h.parts ((p.stands).of ∷ []);
+        own = All-join (IsOfUnit design modules places) h.parts ((p.stands).of ∷ []) h.own (record { unit = n; resource = u; at = at; slow = slow; whole = whole; there = there; connects = (p.stands).connects }, tt);
+        count = length-append h.parts ((p.stands).of ∷ []) ∙ ap (λ k. k + 1) h.count ∙ sym l;
+        nets = λ m low high. subst (λ k. Among k m) (sym (all_ports made x)) (own_net m low high (cases_lt m (length b.nets)));
         came = λ by needs m low high. subst (λ l. Among l m ⊎ ReadyAfter by c l m) (sym (all_numbers made x)) (either by needs m low high (cases_lt m (length b.nets)));
       }
     where
       all_numbers : (made : List SlowPlaced) (x : SlowPlaced) → numbers (flat_map late_nets (made ++ x ∷ [])) ≡ numbers (flat_map late_nets made) ++ numbers (late_nets x)
       all_numbers made x = ap numbers (flat_push made x) ∙ numbers_append (flat_map late_nets made) (late_nets x)
+
+      all_ports : (made : List SlowPlaced) (x : SlowPlaced) → numbers (flat_map port_nets (made ++ x ∷ [])) ≡ numbers (flat_map port_nets made) ++ numbers (port_nets x)
+      all_ports made x = ap numbers (ports_push made x) ∙ numbers_append (flat_map port_nets made) (port_nets x)
+
+      own_net : (m : ℕ) → length a.nets ≤ m → m < length c.nets → (m < length b.nets) ⊎ (length b.nets ≤ m) → Among (numbers (flat_map port_nets made) ++ numbers (port_nets x)) m
+      own_net m low high (inl lt) = among_front (numbers (flat_map port_nets made)) (numbers (port_nets x)) m (h.nets m low lt)
+      own_net m low high (inr le) = among_back (numbers (flat_map port_nets made)) (numbers (port_nets x)) m (p.nets m le high)
 
       first : (by : Dependence) (m : ℕ) → Among (numbers (flat_map late_nets made)) m ⊎ ReadyAfter by b (numbers (flat_map late_nets made)) m
           → Among (numbers (flat_map late_nets made) ++ numbers (late_nets x)) m ⊎ ReadyAfter by c (numbers (flat_map late_nets made) ++ numbers (late_nets x)) m

@@ -1,5 +1,5 @@
 -- One unit that is placed.
-use Rattle.std.proofs.Common.{◌≡◌, ℕ, suc, ◌+◌, ◌<◌, ◌≤◌, ◌&&◌, true, List, [], ◌∷◌, length, map, refl, sym, ap, subst, ◌∙◌, arith, inl, inr, length-append}
+use Rattle.std.proofs.Common.{◌≡◌, ℕ, suc, ◌+◌, ◌<◌, ◌≤◌, ◌&&◌, true, List, [], ◌∷◌, ◌++◌, length, map, refl, sym, ap, subst, ◌∙◌, arith, inl, inr}
 use Rattle.std.specs.Prelude.{◌⊎◌, codes, nat_le, slice_get, Some}
 use Rattle.std.proofs.lemmas.Option.{slice_get_within}
 use Rattle.std.specs.Char.{is_ascii_alphanumeric}
@@ -30,7 +30,7 @@ use Rattle.ap_unit.specs.Slow.{AreSlowInputs, IsReadyByUnit, input_nets, output_
 use Rattle.ap_unit.specs.Units.{in_port, ports_by}
 use Rattle.ap_slow.specs.declared.place.SlowPlaced.{SlowPlaced}
 use Rattle.ap_slow.specs.Placed.{AddsParts, DeclaresLate, HasModule, HasSlowPorts, IsFit, PlacesUnit, StandsAt, StandsUnit, late_nets, port_nets}
-use Rattle.ap_slow.proofs.Lates.{adds_more}
+use Rattle.ap_slow.proofs.Lates.{adds_more, among_back, among_front}
 
 -- the widths of the module's ports
 pub first_width : (m : ModuleText) (ps : List Port) (p : Port) (select width : ℕ) → ps ≡ m.ports → m.ports ≡ ports_by WidthPlusOne select width → slice_get ps 0 ≡ Some p → p.width ≡ select
@@ -138,7 +138,6 @@ module _ (u : Resource) (m : ModuleText) (x : SlowPlaced) (select : ℕ) (a b c 
         names = λ name other apart new. places.names name other apart new;
         late = joins.late;
       } in
-      let count : length c.instances ≡ length a.instances + 1 = ap length places.instances ∙ length-append b.instances (of ∷ []) ∙ ap (λ l. length l + 1) late.instances in
       record {
         stands = record {
           k = length b.instances;
@@ -161,10 +160,19 @@ module _ (u : Resource) (m : ModuleText) (x : SlowPlaced) (select : ℕ) (a b c 
         above = late.above;
         apart = late.apart;
         adds = adds_more [] (unit_part u ∷ []) a b c late.adds adds;
-        instances = count;
+        instances = places.instances ∙ ap (λ l. l ++ of ∷ []) late.instances;
+        nets = λ n low high. among_ports n low (subst (λ k. n < k) long high) (cases_lt n (length b.nets));
         came = λ by needs n low high. first by needs n low (subst (λ k. n < k) long high) (cases_lt n (length b.nets));
       }
     where
+      output : (n : ℕ) → length b.nets ≤ n → n < length b.nets + 2 → (n < length b.nets + 1) ⊎ (length b.nets + 1 ≤ n) → Among (x.outputs.busy.number ∷ x.outputs.y.number ∷ []) n
+      output n low high (inl lt) = inl (ap (λ (o : SlowOutputs). o.busy.number) outs ∙ omega arith)
+      output n low high (inr le) = inr (inl (ap (λ (o : SlowOutputs). o.y.number) outs ∙ omega arith))
+
+      among_ports : (n : ℕ) → length a.nets ≤ n → n < length b.nets + 2 → (n < length b.nets) ⊎ (length b.nets ≤ n) → Among (numbers (port_nets x)) n
+      among_ports n low high (inl lt) = among_front (numbers (late_nets x)) (x.outputs.busy.number ∷ x.outputs.y.number ∷ []) n (late.came n low lt)
+      among_ports n low high (inr le) = among_back (numbers (late_nets x)) (x.outputs.busy.number ∷ x.outputs.y.number ∷ []) n (output n le high (cases_lt n (length b.nets + 1)))
+
       first : (by : Dependence) → by.needs m.name ≡ slow_needs → (n : ℕ) → length a.nets ≤ n → n < length b.nets + 2 → (n < length b.nets) ⊎ (length b.nets ≤ n) → Among (numbers (late_nets x)) n ⊎ ReadyAfter by c (numbers (late_nets x)) n
       first by needs n low high (inl lt) = inl (late.came n low lt)
       first by needs n low high (inr le) = inr (came busy y by needs n le high)

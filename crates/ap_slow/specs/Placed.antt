@@ -1,6 +1,6 @@
 -- Units of several cycles in a processor's top: instances over wires that are driven later.
 use Rattle.std.specs.Option.{option_map_or}
-use Rattle.std.specs.Prelude.{◌≡◌, ◌≢◌, ◌⊎◌, ℕ, ◌+◌, ◌<◌, ◌≤◌, List, [], ◌∷◌, flat_map, length, map, slice_get, Some}
+use Rattle.std.specs.Prelude.{◌≡◌, ◌≢◌, ◌⊎◌, ℕ, ◌<◌, ◌≤◌, List, [], ◌∷◌, ◌++◌, flat_map, length, map, slice_get, Some}
 use Rattle.std.specs.List.{AllByRecursion as Each}
 use Rattle.ap_bits.specs.declared.card.Latency.TheVariants.{WidthPlusOne}
 use Rattle.ap_desc.specs.declared.design.Design.{Design}
@@ -81,7 +81,8 @@ pub record PlacesUnit (u : Resource) (whole : ModuleText) (x : SlowPlaced) (old 
   pub above : Each (λ (w : Wire). length old.nets ≤ w.number) (late_nets x)
   pub apart : NoneTwice (numbers (late_nets x))
   pub adds : AddsParts (unit_part u ∷ []) old new
-  pub instances : length new.instances ≡ length old.instances + 1
+  pub instances : new.instances ≡ old.instances ++ stands.of ∷ []
+  pub nets : CameAmong (numbers (port_nets x)) old new
   pub came : (by : Dependence) → by.needs whole.name ≡ slow_needs → (n : ℕ) → length old.nets ≤ n → n < length new.nets → Among (numbers (late_nets x)) n ⊎ ReadyAfter by new (numbers (late_nets x)) n
 
 -- All units.
@@ -119,6 +120,16 @@ pub record IsPlaced (design : Design) (modules : List ModuleText) (places : List
   pub there : StandsAt modules places x.unit whole
   pub stands : StandsUnit resource whole d x
 
+-- an instance of the module of a unit of several cycles
+pub record IsOfUnit (design : Design) (modules : List ModuleText) (places : List ℕ) (i : Instance) : Type 0 where
+  pub unit : ℕ
+  pub resource : Resource
+  pub at : slice_get design.units unit ≡ Some resource
+  pub slow : 1 < resource.latency
+  pub whole : ModuleText
+  pub there : StandsAt modules places unit whole
+  pub connects : Connects whole i
+
 -- the name of the instance of a unit
 abbrev pub part_name : Design → ℕ → List ℕ
 part_name design unit = option_map_or unit_part (slice_get design.units unit) []
@@ -127,7 +138,8 @@ part_name design unit = option_map_or unit_part (slice_get design.units unit) []
 abbrev pub AreNewParts : Design → Draft → Type 0
 AreNewParts design d = (unit : ℕ) (u : Resource) → slice_get design.units unit ≡ Some u → IsNew (unit_part u) (names_of d)
 
--- These units were placed, in this order, over wires that are driven later, no two of them one. What else came is ready once these are.
+-- These units were placed, in this order, over wires that are driven later, no two of them one. What else came is ready once these are. Nothing
+-- came but the units' instances and the nets at their ports.
 pub record PlacesUnits (design : Design) (modules : List ModuleText) (places : List ℕ) (units : List ℕ) (made : List SlowPlaced) (old new : Draft) : Type 0 where
   pub are : map (λ (x : SlowPlaced). x.unit) made ≡ units
   pub each : Each (IsPlaced design modules places new) made
@@ -135,5 +147,9 @@ pub record PlacesUnits (design : Design) (modules : List ModuleText) (places : L
   pub above : Each (λ (w : Wire). length old.nets ≤ w.number) (flat_map late_nets made)
   pub apart : NoneTwice (numbers (flat_map late_nets made))
   pub adds : AddsParts (map (part_name design) units) old new
-  pub instances : length new.instances ≡ length old.instances + length made
+  pub parts : List Instance
+  pub instances : new.instances ≡ old.instances ++ parts
+  pub own : Each (IsOfUnit design modules places) parts
+  pub count : length parts ≡ length made
+  pub nets : CameAmong (numbers (flat_map port_nets made)) old new
   pub came : (by : Dependence) → NeedAsSlow design modules places by → (n : ℕ) → length old.nets ≤ n → n < length new.nets → Among (numbers (flat_map late_nets made)) n ⊎ ReadyAfter by new (numbers (flat_map late_nets made)) n

@@ -33,4 +33,4 @@ returns c =
     let same : c.as_bytes.result.now ≡ file_part f = c.as_bytes.ensures.value ∙ c.in_ok-name.ensures.ok ∙ ap (λ name. 102 ∷ 95 ∷ name) c.as_str.ensures.same in
     let list : c.as_slice.result.now ≡ file_inputs reads c.args.writes.now = c.as_slice.ensures ∙ c.in_ok-inputs.ensures in
     let y = rw (same, list) at c.in_ok-values.ensures in
-    places_file f c.args.whole.now reads c.args.writes.now c.in_ok-values.values c.args.out.now c.place.new.self c.requires.ports c.requires.given y.ok y.outputs c.requires.fresh y.nets y.part y.joins y.places
+    places_file f c.args.whole.now reads c.args.writes.now c.in_ok-values.values c.args.out.now c.place.new.self c.requires.ports c.requires.given y.ok y.outputs c.requires.fresh y.nets y.part y.joins y.places y.connects

@@ -1,0 +1,4 @@
+pub mod Outputs
+pub mod Acting
+pub mod Taken
+pub mod Follow

@@ -1,0 +1,5 @@
+pub mod Left
+pub mod Flowing
+pub mod Followed
+pub mod Served
+pub mod Border

@@ -1,0 +1,4 @@
+pub mod Working
+pub mod Leaving
+pub mod Serving
+pub mod Ordering
