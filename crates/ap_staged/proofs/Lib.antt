@@ -1,4 +1,5 @@
 pub mod Grounds
+pub mod Led
 pub mod Orders
 pub mod Ports
 pub mod Served

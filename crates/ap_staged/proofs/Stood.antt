@@ -36,7 +36,7 @@ abbrev select_bits : List Port → ℕ
 select_bits [] = 0
 select_bits (p ∷ ports) = p.width
 
-net_on : {a b : Draft} → Extends a b → (w : Wire) → IsNet a.nets w → IsNet b.nets w
+pub net_on : {a b : Draft} → Extends a b → (w : Wire) → IsNet a.nets w → IsNet b.nets w
 net_on {a} {b} e w h = (Carries-Extends e anything).net
   where
     anything : Carries a w.width (λ r x. Unit {0}) w

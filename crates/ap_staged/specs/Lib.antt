@@ -1,4 +1,5 @@
 pub mod Grounds
+pub mod Led
 pub mod Ports
 pub mod Served
 pub mod Stages

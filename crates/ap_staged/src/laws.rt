@@ -1,5 +1,6 @@
 //! Laws of the definitions. They do nothing: their contracts are what they say.
 ghost use Rattle.ap_staged.specs.Grounds.{DrivenAreNamed, GroundsAreNamed, SharedAreNamed};
+ghost use Rattle.ap_staged.specs.Led.{LeadFilesStand, LeadsBankReads, LeadsHaveReadNets, LeadsNameShared};
 ghost use Rattle.ap_staged.specs.Ports.{FileReadsAreOf, KnownAreQuick, MemReadsAreOf, QuickUnitsAreOf, SlowPortsArePlaced, SlowUnitsAreOf, SuppliedPortsAreOf};
 ghost use Rattle.ap_staged.specs.Served.{StagedAreServed};
 ghost use Rattle.ap_staged.specs.Stages.{StagedAreOf, StagedStandOver};
@@ -64,4 +65,14 @@ pub fn supplies_stand()
 /// Of the stages that were made one after another over the registers of the front and what control decodes, each was made over its own.
 pub fn stages_are_made_over()
     ensures { EachWasMade }
+{}
+
+/// The first part of a `top` gives to the stages, however the draft grows: registers and input ports by their names, two nets for each read port
+/// of its files, the files as they were banked, with their read ports at these nets, and these ports standing where their indices are driven
+/// later still.
+pub fn leads_serve_stages()
+    ensures shared { LeadsNameShared }
+    ensures nets { LeadsHaveReadNets }
+    ensures reads { LeadsBankReads }
+    ensures stand { LeadFilesStand }
 {}
