@@ -2,6 +2,7 @@ pub mod Grounds
 pub mod Led
 pub mod Orders
 pub mod Ports
+pub mod Separate
 pub mod Served
 pub mod Shared
 pub mod Stages

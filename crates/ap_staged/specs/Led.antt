@@ -1,5 +1,5 @@
 -- What the first part of a top gives to the stages: the nets that they all read, and read ports of files.
-use Rattle.std.specs.Prelude.{List}
+use Rattle.std.specs.Prelude.{ℕ, List}
 use Rattle.std.specs.List.{AllByRecursion as Each}
 use Rattle.ap_bits.specs.declared.card.Card.{Card}
 use Rattle.ap_desc.specs.Clean.{IsClean}
@@ -7,6 +7,8 @@ use Rattle.ap_desc.specs.declared.design.Design.{Design}
 use Rattle.ap_net.specs.Draft.{Draft, Extends}
 use Rattle.ap_net.specs.Late.{IsLate}
 use Rattle.ap_net.specs.Modules.{ModuleText}
+use Rattle.ap_net.specs.Ready.{numbers}
+use Rattle.ap_net.specs.Wiring.{NoneTwice}
 use Rattle.ap_pipe.specs.declared.table.StageSlots.{StageSlots}
 use Rattle.ap_bank.specs.declared.bank.FileNets.{FileNets}
 use Rattle.ap_bank.specs.FileBorder.{BanksFiles}
@@ -14,8 +16,12 @@ use Rattle.ap_ctl.specs.Lists.{EachPair}
 use Rattle.ap_lead.specs.declared.store.Lead.{Lead}
 use Rattle.ap_lead.specs.Storing.{Leads}
 use Rattle.ap_parts.specs.Known.{HasParts, Knows}
+use Rattle.ap_slow.specs.declared.place.SlowPlaced.{SlowPlaced}
+use Rattle.ap_slow.specs.Placed.{PlacesUnits}
 use Rattle.ap_stages.specs.declared.begin.SharedNets.{SharedNets}
+use Rattle.ap_supply.specs.Apart.{late_of}
 use Rattle.ap_supply.specs.Listing.{HaveReadNets}
+use Rattle.ap_supply.specs.Supplies.{placed_of}
 use Rattle.ap_staged.specs.Grounds.{AreSharedNamed, AreSharedOf}
 use Rattle.ap_staged.specs.Ports.{HaveReads}
 use Rattle.ap_staged.specs.Standing.{StandsFile}
@@ -42,3 +48,8 @@ LeadsBankReads = (design : Design) (stages : List StageSlots) (made : Lead) (a d
 -- The read ports stand where their indices are driven later still.
 abbrev pub LeadFilesStand : Type 0
 LeadFilesStand = (design : Design) (stages : List StageSlots) (made : Lead) (a d : Draft) → Leads design stages made a → Extends a d → Each (λ (n : FileNets). Each (IsLate d) n.indices) made.files → EachPair (StandsFile d) design.files made.files
+
+-- Over it units of several cycles were placed: then no two of all wires that stages drive are one.
+abbrev pub PlacedWiresAreApart : Type 0
+PlacedWiresAreApart = (design : Design) (stages : List StageSlots) (made : Lead) (a old new : Draft) (modules : List ModuleText) (places units : List ℕ) (slow : List SlowPlaced) → Leads design stages made a → Extends a old
+    → PlacesUnits design modules places units slow old new → NoneTwice (numbers (late_of (placed_of modules places slow made.files made.declared.ports.mems)))

@@ -1,6 +1,6 @@
 //! Laws of the definitions. They do nothing: their contracts are what they say.
 ghost use Rattle.ap_staged.specs.Grounds.{DrivenAreNamed, GroundsAreNamed, SharedAreNamed};
-ghost use Rattle.ap_staged.specs.Led.{LeadFilesStand, LeadsBankReads, LeadsHaveReadNets, LeadsNameShared};
+ghost use Rattle.ap_staged.specs.Led.{LeadFilesStand, LeadsBankReads, LeadsHaveReadNets, LeadsNameShared, PlacedWiresAreApart};
 ghost use Rattle.ap_staged.specs.Ports.{FileReadsAreOf, KnownAreQuick, MemReadsAreOf, QuickUnitsAreOf, SlowPortsArePlaced, SlowUnitsAreOf, SuppliedPortsAreOf};
 ghost use Rattle.ap_staged.specs.Served.{StagedAreServed};
 ghost use Rattle.ap_staged.specs.Stages.{StagedAreOf, StagedStandOver};
@@ -75,4 +75,10 @@ pub fn leads_serve_stages()
     ensures nets { LeadsHaveReadNets }
     ensures reads { LeadsBankReads }
     ensures stand { LeadFilesStand }
+{}
+
+/// Where units of several cycles were placed over the first part of a `top`, no two of the wires are one that stages drive: those of the units,
+/// the indices at read ports and the addresses at which memories are read.
+pub fn placed_wires_are_apart()
+    ensures { PlacedWiresAreApart }
 {}
