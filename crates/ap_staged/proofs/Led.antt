@@ -10,7 +10,6 @@ use Rattle.ap_bank.specs.Placed.{IsWide}
 use Rattle.ap_bank.proofs.BankedGiven.{banked_placed}
 use Rattle.ap_ctl.proofs.Beside.{EachFrom-at}
 use Rattle.ap_ctl.specs.Lists.{EachPair}
-use Rattle.ap_desc.specs.Clean.{IsClean}
 use Rattle.ap_desc.specs.Designs.{index_bits}
 use Rattle.ap_desc.specs.declared.design.Design.{Design}
 use Rattle.ap_desc.specs.declared.design.File.{File}
@@ -19,17 +18,15 @@ use Rattle.ap_lead.specs.Leading.{HasBanked}
 use Rattle.ap_lead.specs.Storing.{IsStored, Leads}
 use Rattle.ap_lead.specs.Writes.{file_writes}
 use Rattle.ap_lead.proofs.Led.{lead_gives_files}
-use Rattle.ap_net.specs.declared.cell.Wire.{Wire}
 use Rattle.ap_net.specs.declared.net.Port.{Port}
 use Rattle.ap_net.specs.Draft.{Draft, Extends}
 use Rattle.ap_net.specs.Late.{IsLate}
-use Rattle.ap_net.specs.Modules.{outputs}
 use Rattle.ap_net.proofs.Laws.{Extends-trans}
 use Rattle.ap_net.proofs.Lists.{All-at, some_same}
 use Rattle.ap_pipe.specs.declared.table.StageSlots.{StageSlots}
 use Rattle.ap_stage.specs.Trees.{IsShallow, output}
 use Rattle.ap_stage.proofs.Shallow.{shallow_on}
-use Rattle.ap_store.specs.FilePorts.{file_ports, read_index, read_ports, read_value, write_ports}
+use Rattle.ap_store.specs.FilePorts.{read_ports, read_value, write_ports}
 use Rattle.ap_supply.specs.Listing.{HasReadNets}
 use Rattle.ap_staged.specs.Led.{LeadFilesStand, LeadsBankReads, LeadsHaveReadNets, LeadsNameShared}
 use Rattle.ap_staged.specs.Standing.{StandsFile}
@@ -82,9 +79,9 @@ module _ (design : Design) (stages : List StageSlots) (made : Lead) (a d : Draft
       let count : length nets.shown ≡ g.reads = bank.placed.count in
       let from_none : 0 + port ≡ port = omega arith in
       let joined : slice_get bank.placed.of.nets (read_value port) ≡ Some value = subst (λ n. slice_get bank.placed.of.nets (read_value n) ≡ Some value) from_none
-          (EachFrom-at (λ number w. slice_get bank.placed.of.nets (read_value number) ≡ Some w) 0 nets.shown bank.placed.joined.shown port value value_at) in
+      (EachFrom-at (λ number w. slice_get bank.placed.of.nets (read_value number) ≡ Some w) 0 nets.shown bank.placed.joined.shown port value value_at) in
       let drives : slice_get bank.placed.of.drives (read_value port) ≡ Some true = ap (λ bs. slice_get bs (read_value port)) bank.placed.connects.drives
-          ∙ ap (λ (ps : List Port). slice_get (map is_out ps) (read_value port)) s.stores.has ∙ shown_out g 0 g.reads port (flat_map (write_ports g) (range_with_len 0 g.writes)) (omega (arith, low, count)) in
+      ∙ ap (λ (ps : List Port). slice_get (map is_out ps) (read_value port)) s.stores.has ∙ shown_out g 0 g.reads port (flat_map (write_ports g) (range_with_len 0 g.writes)) (omega (arith, low, count)) in
       let shallow : IsShallow s.after 0 value.number = output 0 value.number _ (read_value port) bank.placed.of value bank.placed.placed joined drives refl in
       record {
         late = All-at (IsLate d) nets.indices port index late index_at;

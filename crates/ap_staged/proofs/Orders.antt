@@ -1,7 +1,6 @@
 -- The nodes of a stage's order are units, read ports and memories of the design.
 use Rattle.std.proofs.Common.{◌≡◌, ℕ, ◌+◌, ◌<◌, List, [], ◌∷◌, Some, inl, inr, sym, subst}
 use Rattle.std.specs.Prelude.{slice_get}
-use Rattle.std.specs.List.{AllByRecursion as Each}
 use Rattle.std.proofs.lemmas.Option.{same_Some}
 use Rattle.ap_desc.proofs.Members.{In, any_in, each_contained, in_contains}
 use Rattle.ap_desc.specs.Chains.{IsNodeOf, node_of}

@@ -1,30 +1,27 @@
 -- The wires that stages drive stand apart, by the drafts in which they came.
-use Rattle.std.proofs.Common.{◌≡◌, ◌≢◌, ℕ, ◌+◌, ◌<◌, ◌≤◌, List, [], ◌∷◌, ◌++◌, length, flat_map, map, Some, refl, sym, ap, subst, ◌∙◌, arith, length-append}
-use Rattle.std.specs.Prelude.{slice_get}
+use Rattle.std.proofs.Common.{◌≡◌, ◌≢◌, ℕ, ◌+◌, ◌<◌, ◌≤◌, List, [], ◌∷◌, ◌++◌, length, flat_map, map, refl, sym, ap, subst, ◌∙◌, arith, length-append}
 use Rattle.std.specs.List.{AllByRecursion as Each}
 use Rattle.std.proofs.lemmas.List.{map-append}
 use Rattle.std.proofs.lemmas.Option.{slice_get_within}
 use Rattle.ap_bank.specs.declared.bank.FileNets.{FileNets}
 use Rattle.ap_ctl.proofs.Beside.{EachPair-second}
-use Rattle.ap_desc.specs.declared.design.Mem.{Mem}
 use Rattle.ap_front.specs.declared.ports.MemPorts.{MemPorts}
 use Rattle.ap_front.specs.Ports.{AreMemPorts}
-use Rattle.ap_lead.specs.Leading.{all_numbers, given_numbers, mem_read, output_numbers}
+use Rattle.ap_lead.specs.Leading.{given_numbers, mem_read, output_numbers}
 use Rattle.ap_lead.specs.Storing.{index_numbers}
 use Rattle.ap_lead.proofs.Leaving.{leads_leave_rest}
 use Rattle.ap_net.specs.declared.cell.Wire.{Wire}
-use Rattle.ap_net.specs.declared.net.ModuleNet.{ModuleNet}
 use Rattle.ap_net.specs.Draft.{Draft, Extends}
 use Rattle.ap_net.specs.Late.{IsLate}
 use Rattle.ap_net.specs.Ready.{numbers}
 use Rattle.ap_net.specs.Wiring.{NoneTwice}
 use Rattle.ap_net.proofs.Connected.{NoneTwice-join}
-use Rattle.ap_net.proofs.Lists.{All-back, All-from, All-front, All-join, All-map, All-unmap}
+use Rattle.ap_net.proofs.Lists.{All-from, All-front, All-join, All-map, All-unmap}
 use Rattle.ap_net.proofs.Wired.{number-IsNet}
 use Rattle.ap_slow.specs.declared.place.SlowPlaced.{SlowPlaced}
 use Rattle.ap_slow.specs.Placed.{late_nets}
 use Rattle.ap_steps.specs.TopOrder.{mem_numbers}
-use Rattle.ap_supply.specs.Apart.{address_wire, asked_wires, index_wires, late_of}
+use Rattle.ap_supply.specs.Apart.{address_wire, asked_wires, index_wires}
 use Rattle.ap_staged.specs.Led.{PlacedWiresAreApart}
 
 -- Numbers. ----------------------------------------------------------------------------------------------------------------
@@ -59,10 +56,13 @@ unlike_asked n xs h = All-map (λ m. m ≢ n) (λ (w : Wire). w.number) (flat_ma
 
 none_asked : (xs : List SlowPlaced) → NoneTwice (numbers (flat_map late_nets xs)) → NoneTwice (numbers (flat_map asked_wires xs))
 none_asked [] h = tt
-none_asked (x ∷ xs) h =
-    ((h.0.0, (h.0.1.0, unlike_asked x.inputs.sel.number xs h.0.1.1.1.1)),
-    ((h.1.0.0, unlike_asked x.inputs.a.number xs h.1.0.1.1.1),
-    (unlike_asked x.inputs.b.number xs h.1.1.0.1.1, none_asked xs h.1.1.1.1.1)))
+none_asked (x ∷ xs) h = (
+  (h.0.0, (h.0.1.0, unlike_asked x.inputs.sel.number xs h.0.1.1.1.1)),
+  (
+    (h.1.0.0, unlike_asked x.inputs.a.number xs h.1.0.1.1.1),
+    (unlike_asked x.inputs.b.number xs h.1.1.0.1.1, none_asked xs h.1.1.1.1.1),
+  ),
+)
 
 -- Indices and addresses. --------------------------------------------------------------------------------------------------
 
@@ -104,20 +104,20 @@ placed_wires_are_apart design stages made a old new modules places units slow h 
     let reads : NoneTwice (numbers (flat_map index_wires made.files)) = subst NoneTwice (sym (index_is made.files)) h.stores.apart in
     let from : Each (λ n. middle ≤ n) (numbers (flat_map index_wires made.files)) = subst (Each (λ n. middle ≤ n)) (sym (index_is made.files)) h.stores.above in
     let under : Each (λ n. n < length a.nets) (numbers (flat_map index_wires made.files)) = All-map (λ n. n < length a.nets) (λ (w : Wire). w.number) (flat_map index_wires made.files)
-        (each_index (λ (w : Wire). w.number < length a.nets) made.files
-        (All-from (λ (n : FileNets). Each (IsLate a) n.indices) (λ (n : FileNets). Each (λ (w : Wire). w.number < length a.nets) n.indices) (λ n late. All-from (IsLate a) (λ (w : Wire). w.number < length a.nets) (λ w l. number-IsNet a.nets w l.net) n.indices late) made.files h.stores.late_indices)) in
+    (each_index (λ (w : Wire). w.number < length a.nets) made.files
+    (All-from (λ (n : FileNets). Each (IsLate a) n.indices) (λ (n : FileNets). Each (λ (w : Wire). w.number < length a.nets) n.indices) (λ n late. All-from (IsLate a) (λ (w : Wire). w.number < length a.nets) (λ w l. number-IsNet a.nets w l.net) n.indices late) made.files h.stores.late_indices)) in
     let apart = (leads_leave_rest design stages made a h).apart in
     let mems : NoneTwice (numbers (flat_map address_wire ports.mems)) = none_read ports.mems (none_front (flat_map mem_numbers (map mem_read ports.mems)) (output_numbers ports)
-        (none_back (given_numbers ports) (flat_map mem_numbers (map mem_read ports.mems) ++ output_numbers ports) apart.1.1.1.1)) in
+    (none_back (given_numbers ports) (flat_map mem_numbers (map mem_read ports.mems) ++ output_numbers ports) apart.1.1.1.1)) in
     let below : Each (λ n. n < length (h.first).nets) (numbers (flat_map address_wire ports.mems)) = All-map (λ n. n < length (h.first).nets) (λ (w : Wire). w.number) (flat_map address_wire ports.mems)
-        (each_address (λ (w : Wire). w.number < length (h.first).nets) ports.mems
-        (EachPair-second (AreMemPorts h.first) (λ (m : MemPorts). m.read_address.number < length (h.first).nets) (λ m q is. slice_get_within (h.first).nets q.read_address.number _ is.read_address.there) design.mems ports.mems h.declares.ports.mems)) in
+    (each_address (λ (w : Wire). w.number < length (h.first).nets) ports.mems
+    (EachPair-second (AreMemPorts h.first) (λ (m : MemPorts). m.read_address.number < length (h.first).nets) (λ m q is. slice_get_within (h.first).nets q.read_address.number _ is.read_address.there) design.mems ports.mems h.declares.ports.mems)) in
     let both : NoneTwice (numbers (flat_map index_wires made.files ++ flat_map address_wire ports.mems)) =
-        subst NoneTwice (sym (map-append (λ (w : Wire). w.number) (flat_map index_wires made.files) (flat_map address_wire ports.mems)))
-        (joined (numbers (flat_map index_wires made.files)) (numbers (flat_map address_wire ports.mems)) middle reads mems from (lower (numbers (flat_map address_wire ports.mems)) (length (h.first).nets) middle first below)) in
+    subst NoneTwice (sym (map-append (λ (w : Wire). w.number) (flat_map index_wires made.files) (flat_map address_wire ports.mems)))
+    (joined (numbers (flat_map index_wires made.files)) (numbers (flat_map address_wire ports.mems)) middle reads mems from (lower (numbers (flat_map address_wire ports.mems)) (length (h.first).nets) middle first below)) in
     let all_below : Each (λ n. n < high) (numbers (flat_map index_wires made.files ++ flat_map address_wire ports.mems)) =
-        subst (Each (λ n. n < high)) (sym (map-append (λ (w : Wire). w.number) (flat_map index_wires made.files) (flat_map address_wire ports.mems)))
-        (All-join (λ n. n < high) (numbers (flat_map index_wires made.files)) (numbers (flat_map address_wire ports.mems)) (lower (numbers (flat_map index_wires made.files)) (length a.nets) high further under)
-        (let up : length (h.first).nets ≤ high = omega arith in lower (numbers (flat_map address_wire ports.mems)) (length (h.first).nets) high up below)) in
+    subst (Each (λ n. n < high)) (sym (map-append (λ (w : Wire). w.number) (flat_map index_wires made.files) (flat_map address_wire ports.mems)))
+    (All-join (λ n. n < high) (numbers (flat_map index_wires made.files)) (numbers (flat_map address_wire ports.mems)) (lower (numbers (flat_map index_wires made.files)) (length a.nets) high further under)
+    (let up : length (h.first).nets ≤ high = omega arith in lower (numbers (flat_map address_wire ports.mems)) (length (h.first).nets) high up below)) in
     subst NoneTwice (sym (map-append (λ (w : Wire). w.number) (flat_map asked_wires slow) (flat_map index_wires made.files ++ flat_map address_wire ports.mems)))
     (joined (numbers (flat_map asked_wires slow)) (numbers (flat_map index_wires made.files ++ flat_map address_wire ports.mems)) high asked both above all_below)

@@ -25,8 +25,6 @@ use Rattle.ap_net.proofs.Lists.{some_same}
 use Rattle.ap_parts.specs.Known.{HasUnitNamed, StandsThere, known_ports}
 use Rattle.ap_parts.proofs.KnownPorts.{slow_ports}
 use Rattle.ap_signals.specs.DesignOutside.{mem_shape}
-use Rattle.ap_slow.specs.Placed.{port_nets}
-use Rattle.ap_stage.specs.Served.{IsGiven}
 use Rattle.ap_stage.specs.Trees.{IsShallow, output, source}
 use Rattle.ap_stage.proofs.Shallow.{shallow_on}
 use Rattle.ap_unit.specs.Units.{ports_by}
