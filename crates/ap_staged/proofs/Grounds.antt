@@ -2,7 +2,6 @@
 use Rattle.std.proofs.Common.{◌≡◌, ℕ, zero, suc, List, [], ◌∷◌, Option, Some, refl, sym, ap, subst, ◌∙◌}
 use Rattle.std.specs.Prelude.{slice_get, true}
 use Rattle.ap_ctl.proofs.Beside.{EachPair-at}
-use Rattle.ap_ctl.specs.Lists.{EachPair}
 use Rattle.ap_bank.specs.declared.regs.RegWrite.{RegWrite}
 use Rattle.ap_bank.specs.Regs.{IsReg, RegTakes, TakeWrites}
 use Rattle.ap_border.specs.Named.{IsNamed, IsRegisterNamed}

@@ -1,6 +1,11 @@
 pub mod Grounds
+pub mod Led
+pub mod Orders
 pub mod Ports
+pub mod Separate
 pub mod Served
 pub mod Shared
 pub mod Stages
 pub mod Standing
+pub mod Stood
+pub mod Together

@@ -1,5 +1,5 @@
 -- The ports of a stage are ports of the design, by what was placed for its nodes.
-use Rattle.std.proofs.Common.{◌≡◌, ℕ, ◌+◌, ◌*◌, ◌<◌, ◌≤◌, false, true, List, [], ◌∷◌, length, Some, nat_lt, refl, sym, ap, subst, ◌∙◌, arith}
+use Rattle.std.proofs.Common.{◌≡◌, ℕ, ◌+◌, ◌*◌, ◌<◌, ◌≤◌, List, length, Some, nat_lt, refl, sym, ap, subst, ◌∙◌, arith}
 use Rattle.std.specs.Prelude.{codes, if◌then◌else◌, slice_get}
 use Rattle.std.specs.Option.{option_map_or}
 use Rattle.std.proofs.lemmas.Bool.{le-ltb, lt-ltb}
@@ -10,7 +10,6 @@ use Rattle.ap_bits.specs.declared.card.Latency.{Latency}
 use Rattle.ap_bits.specs.declared.card.Latency.TheVariants.{One, WidthPlusOne}
 use Rattle.ap_desc.specs.Clean.{FitsCards}
 use Rattle.ap_desc.specs.declared.design.Design.{Design}
-use Rattle.ap_desc.specs.declared.design.File.{File}
 use Rattle.ap_desc.specs.declared.design.Node.{Node as DesignNode}
 use Rattle.ap_desc.specs.declared.design.Node.TheVariants as design_node
 use Rattle.ap_desc.specs.declared.design.Unit.{Unit as Resource}
@@ -24,7 +23,7 @@ use Rattle.ap_net.specs.Modules.{ModuleText, module_named}
 use Rattle.ap_net.specs.Outside.{input, mem_name, output}
 use Rattle.ap_net.proofs.Lists.{some_same}
 use Rattle.ap_net.proofs.Renumbered.{some_within}
-use Rattle.ap_ports.specs.Numbers.{IsNumberedNode, number_of_node}
+use Rattle.ap_ports.specs.Numbers.{number_of_node}
 use Rattle.ap_signals.specs.DesignOutside.{mem_shape}
 use Rattle.ap_unit.specs.Units.{Behaves, Computes, ports_by}
 use Rattle.ap_stage.specs.declared.chain.Node.{Node}
@@ -37,20 +36,18 @@ use Rattle.ap_stages.specs.declared.nodes.Supply.TheVariants as by
 use Rattle.ap_stages.proofs.Standing.{port_is}
 use Rattle.ap_border.specs.Files.{HasFiles}
 use Rattle.ap_border.specs.Named.{IsNamed}
-use Rattle.ap_data.specs.Stage.{IsFileRead, IsMemRead, IsPortOf, IsQuickOf}
+use Rattle.ap_data.specs.Stage.{IsPortOf, IsQuickOf}
 use Rattle.ap_bank.specs.declared.bank.FileNets.{FileNets}
-use Rattle.ap_bank.specs.FileBorder.{BanksFile, BanksFiles}
+use Rattle.ap_bank.specs.FileBorder.{BanksFiles}
 use Rattle.ap_ctl.proofs.Beside.{EachPair-at}
-use Rattle.ap_ctl.specs.Lists.{EachPair}
 use Rattle.ap_front.specs.Ports.{AreMemPorts}
-use Rattle.ap_front.specs.declared.ports.MemPorts.{MemPorts}
 use Rattle.ap_front.proofs.PortNets.{port_named}
 use Rattle.ap_parts.specs.Known.{HasParts, HasUnitNamed, Knows, StandsThere, known_ports}
 use Rattle.ap_parts.proofs.KindNames.{width_fits}
 use Rattle.ap_parts.proofs.KnownPorts.{card_at}
 use Rattle.ap_parts.proofs.Lists.{pair_at}
 use Rattle.ap_built.specs.Top.{JoinsBanks}
-use Rattle.ap_supply.specs.Supplies.{AreSuppliesOf, IsSupplyOf, Placed}
+use Rattle.ap_supply.specs.Supplies.{IsSupplyOf, Placed}
 use Rattle.ap_staged.specs.Ports.{FileReadsAreOf, HasReads, IsPlacedIn, JoinsPlaced, KnownAreQuick, MemReadsAreOf, QuickUnitsAreOf, SlowPortsArePlaced, SlowUnitsAreOf, SuppliedPortsAreOf}
 
 -- Units of one cycle. -----------------------------------------------------------------------------------------------------

@@ -1,8 +1,7 @@
 -- The nets that all stages read are what they are named for.
-use Rattle.std.proofs.Common.{◌≡◌, List, Option, sym, subst}
+use Rattle.std.proofs.Common.{List, Option, sym, subst}
 use Rattle.ap_bank.specs.declared.regs.RegWrite.{RegWrite}
-use Rattle.ap_bank.specs.Border.{BanksRegs}
-use Rattle.ap_bank.specs.Regs.{AreRegs, DrivesRegs, IsReg, TakeWrites}
+use Rattle.ap_bank.specs.Regs.{IsReg, TakeWrites}
 use Rattle.ap_bank.proofs.BorderGiven.{IsReg-later}
 use Rattle.ap_bank.proofs.Driven.{takes_later}
 use Rattle.ap_ctl.proofs.Beside.{EachPair-weaker}

@@ -13,7 +13,7 @@ use Rattle.ap_net.specs.declared.cell.Wire.{Wire}
 use Rattle.ap_net.specs.Draft.{Extends}
 use Rattle.ap_net.proofs.Laws.{Extends-trans}
 use Rattle.ap_pipe.specs.declared.table.StageSlots.{StageSlots}
-use Rattle.ap_values.specs.Served.{AreNamedSlots, IsNamedGround, IsServedStage, ServedStagesAreOf}
+use Rattle.ap_values.specs.Served.{AreNamedSlots, IsNamedGround, ServedStagesAreOf}
 use Rattle.ap_values.proofs.Slots.{flights_name_slots}
 use Rattle.ap_built.specs.Front.{kept_in}
 use Rattle.ap_staged.specs.Stages.{StagedAreOf, StagedStandOver}

@@ -1,6 +1,6 @@
 -- What was placed stands, so that nodes can be served with it.
-use Rattle.std.proofs.Common.{◌≡◌, ℕ, ◌+◌, ◌≤◌, ◌^◌, List, [], ◌∷◌, ◌++◌, length, map, Some, refl, sym, ap, subst, ◌∙◌}
-use Rattle.std.specs.Prelude.{if◌then◌else◌, slice_get}
+use Rattle.std.proofs.Common.{◌≡◌, ℕ, ◌≤◌, ◌^◌, List, [], ◌∷◌, ◌++◌, length, map, sym, ap, subst, ◌∙◌}
+use Rattle.std.specs.Prelude.{if◌then◌else◌}
 use Rattle.std.specs.List.{AllByRecursion as Each}
 use Rattle.std.proofs.lemmas.Bool.{le-ltb}
 use Rattle.ap_bits.specs.Cards.{select_width}
@@ -20,16 +20,14 @@ use Rattle.ap_net.specs.declared.net.Port.{Port}
 use Rattle.ap_net.specs.Draft.{Draft}
 use Rattle.ap_net.specs.Modules.{IsModule, ModuleText, port_net, reg_net, wire_net}
 use Rattle.ap_net.proofs.Lists.{All-at, All-from, All-front, some_same}
-use Rattle.ap_ports.specs.Numbers.{IsNumberedNode, number_of_node}
 use Rattle.ap_parts.specs.Known.{AreKnown, HasParts, HasUnitNamed, Knows, StandsThere, known_ports}
 use Rattle.ap_slow.specs.declared.place.SlowPlaced.{SlowPlaced}
 use Rattle.ap_unit.specs.Units.{ports_by}
 use Rattle.ap_stages.specs.Stood.{HasStanding, Stands, StandsQuick, StandsRead, StandsSlow}
-use Rattle.ap_stages.specs.Supplies.{supply_of}
 use Rattle.ap_stages.specs.declared.nodes.Supplied.{Supplied}
 use Rattle.ap_stages.specs.declared.nodes.Supply.{Supply}
 use Rattle.ap_stages.specs.declared.nodes.Supply.TheVariants as by
-use Rattle.ap_supply.specs.Supplies.{AreSupplied, AreSuppliesOf, IsFileSupply, IsMemSupply, IsQuickSupply, IsSlowSupply, IsSupplyOf, Placed}
+use Rattle.ap_supply.specs.Supplies.{AreSupplied, AreSuppliesOf, IsQuickSupply, IsSlowSupply, IsSupplyOf, Placed}
 use Rattle.ap_staged.specs.Standing.{IsNumberedIn, StandsFile, StandsIn, StandsMem, StandsPlaced, SuppliesStand}
 
 -- a number of bits that a net may have

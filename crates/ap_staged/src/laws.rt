@@ -1,9 +1,11 @@
 //! Laws of the definitions. They do nothing: their contracts are what they say.
 ghost use Rattle.ap_staged.specs.Grounds.{DrivenAreNamed, GroundsAreNamed, SharedAreNamed};
+ghost use Rattle.ap_staged.specs.Led.{LeadFilesStand, LeadsBankReads, LeadsHaveReadNets, LeadsNameShared, PlacedWiresAreApart};
 ghost use Rattle.ap_staged.specs.Ports.{FileReadsAreOf, KnownAreQuick, MemReadsAreOf, QuickUnitsAreOf, SlowPortsArePlaced, SlowUnitsAreOf, SuppliedPortsAreOf};
 ghost use Rattle.ap_staged.specs.Served.{StagedAreServed};
 ghost use Rattle.ap_staged.specs.Stages.{StagedAreOf, StagedStandOver};
-ghost use Rattle.ap_staged.specs.Standing.{SuppliesStand};
+ghost use Rattle.ap_staged.specs.Standing.{DeclaredMemsStand, OrdersAreNumbered, PlacedUnitsStand, SuppliesStand};
+ghost use Rattle.ap_staged.specs.Together.{EachWasMade};
 
 use ap_values::laws::served_stages_are_of;
 
@@ -51,7 +53,32 @@ pub fn staged_are_of()
     served_stages_are_of();
 }
 
-/// Where all that was placed stands in a draft, the nodes of the design can be served with it: a stage can be made of them.
+/// Where all that was placed stands in a draft, the nodes of the design can be served with it: a stage can be made of them. Units of several
+/// cycles stand as they were placed, and memories as their ports were declared, where their wires are driven later still.
 pub fn supplies_stand()
-    ensures { SuppliesStand }
+    ensures nodes { SuppliesStand }
+    ensures orders { OrdersAreNumbered }
+    ensures units { PlacedUnitsStand }
+    ensures mems { DeclaredMemsStand }
+{}
+
+/// Of the stages that were made one after another over the registers of the front and what control decodes, each was made over its own.
+pub fn stages_are_made_over()
+    ensures { EachWasMade }
+{}
+
+/// The first part of a `top` gives to the stages, however the draft grows: registers and input ports by their names, two nets for each read port
+/// of its files, the files as they were banked, with their read ports at these nets, and these ports standing where their indices are driven
+/// later still.
+pub fn leads_serve_stages()
+    ensures shared { LeadsNameShared }
+    ensures nets { LeadsHaveReadNets }
+    ensures reads { LeadsBankReads }
+    ensures stand { LeadFilesStand }
+{}
+
+/// Where units of several cycles were placed over the first part of a `top`, no two of the wires are one that stages drive: those of the units,
+/// the indices at read ports and the addresses at which memories are read.
+pub fn placed_wires_are_apart()
+    ensures { PlacedWiresAreApart }
 {}

@@ -1,19 +1,16 @@
 -- What serves a node, by the entry that is made for it.
-use Rattle.std.proofs.Common.{◌≡◌, ℕ, ◌+◌, ◌<◌, ◌≤◌, List, [], ◌∷◌, length, Some, refl, sym, ap, subst, ◌∙◌, arith}
+use Rattle.std.proofs.Common.{◌≡◌, ℕ, ◌<◌, ◌≤◌, List, [], length, Some, refl, sym, subst, arith}
 use Rattle.std.specs.Prelude.{◌&&◌, nat_le, slice_get}
 use Rattle.std.specs.List.{AllByRecursion as Each, list_all}
 use Rattle.std.proofs.lemmas.Bool.{and_parts, leb-true}
 use Rattle.std.proofs.lemmas.Option.{slice_get_within}
 use Rattle.ap_ctl.proofs.Beside.{EachPair-at, EachPair-length}
-use Rattle.ap_ctl.proofs.Within.{units_within}
 use Rattle.ap_desc.specs.Clean.{IsClean}
 use Rattle.ap_desc.specs.Designs.{is_between, is_cell_count, is_file_within, is_mem_within, is_width}
 use Rattle.ap_desc.specs.declared.design.Design.{Design}
 use Rattle.ap_desc.specs.declared.design.File.{File}
-use Rattle.ap_desc.specs.declared.design.Mem.{Mem}
 use Rattle.ap_desc.specs.declared.design.Node.{Node as DesignNode}
 use Rattle.ap_desc.specs.declared.design.Node.TheVariants as design_node
-use Rattle.ap_desc.specs.declared.design.Unit.{Unit as Resource}
 use Rattle.ap_net.specs.Modules.{ModuleText}
 use Rattle.ap_net.proofs.Renumbered.{some_within}
 use Rattle.ap_ports.specs.Numbers.{number_of_node}
@@ -22,7 +19,6 @@ use Rattle.ap_bank.specs.declared.bank.FileNets.{FileNets}
 use Rattle.ap_front.specs.declared.ports.MemPorts.{MemPorts}
 use Rattle.ap_slow.specs.declared.place.SlowPlaced.{SlowPlaced}
 use Rattle.ap_stages.specs.declared.nodes.Supplied.{Supplied}
-use Rattle.ap_stages.specs.declared.nodes.Supply.{Supply}
 use Rattle.ap_supply.specs.Listing.{HasReadNets, HaveReadNets, IsFileNumber, IsListed, IsMemBy, IsMemEntry, IsMemNumber, IsReadBy, IsReadEntry, IsReadNumber, IsUnitEntry, IsUnitNumber, Lists, ServesUnit}
 use Rattle.ap_supply.specs.Supplies.{AreSupplied, AreSuppliesOf, IsEntry, IsNodeIn, IsSupplyOf, Placed, placed_of}
 use Rattle.ap_supply.proofs.Entries.{entries_are_supplies}

@@ -1,4 +1,4 @@
-use Rattle.std.proofs.Common.{◌≡◌, length, List, subst}
+use Rattle.std.proofs.Common.{length, List, subst}
 use Rattle.ap_stages.specs.declared.nodes.Supplied.{Supplied}
 use Rattle.ap_supply.specs.Listing.{IsUnitEntry, IsUnitNumber, Lists}
 use Rattle.ap_supply.proofs.Served.{are_supplied, are_supplies, each_is}
