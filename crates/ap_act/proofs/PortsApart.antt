@@ -136,16 +136,16 @@ groups_at design d (q ∷ ps) (g ∷ groups) h = pair_join (IsAt d) (group_ports
 
 pub ports_are_apart : PortsAreApart
 ports_are_apart design d p clean h = numbers_apart d (top_ports design) (ports_in_order p) (
-      h.iaddr.there,
-      (
-        h.idata.there,
-        (
-          h.mwait.there,
-          pair_join (IsAt d) (flat_map input_of design.inputs) _ (numbers p.inputs) _ (inputs_at d design.inputs p.inputs h.inputs)
-              (pair_join (IsAt d) (flat_map mem_of design.mems) _ (flat_map mem_ports p.mems) _ (mems_at d design.mems p.mems h.mems) (h.stall.there, (h.kill.there, groups_at design d (write_groups design) p.groups h.groups))),
-        ),
-      ),
-    ) (ports_are_new design clean).apart
+  h.iaddr.there,
+  (
+    h.idata.there,
+    (
+      h.mwait.there,
+      pair_join (IsAt d) (flat_map input_of design.inputs) _ (numbers p.inputs) _ (inputs_at d design.inputs p.inputs h.inputs)
+          (pair_join (IsAt d) (flat_map mem_of design.mems) _ (flat_map mem_ports p.mems) _ (mems_at d design.mems p.mems h.mems) (h.stall.there, (h.kill.there, groups_at design d (write_groups design) p.groups h.groups))),
+    ),
+  ),
+) (ports_are_new design clean).apart
 
 -- The outputs.
 
