@@ -49,8 +49,8 @@ fn drive_flights(
     requires hold { IsBit out.old.nets hold }
     requires can { CanFlow design.now out.old slots.now registers.now ports.now control.now target
         stages.now }
-    ensures { IfOk result (λ comings. DrivesFlights slots.now registers.now ports.now stages.now hold
-        comings out.old out.new) }
+    ensures { IfOk result (λ comings. DrivesFlights slots.now registers.now ports.now stages.now
+        hold comings out.old out.new) }
 {
     out.rules();
     let alloc = out.allocator();
@@ -80,8 +80,8 @@ pub fn make_flow(
     requires fresh { CanFresh out.old }
     requires can { CanFlow design.now out.old slots.now registers.now ports.now control.now target
         stages.now }
-    ensures { IfOk result (λ made. Flows design.now slots.now registers.now ports.now control.now target
-        stages.now made out.old out.new) }
+    ensures { IfOk result (λ made. Flows design.now slots.now registers.now ports.now control.now
+        target stages.now made out.old out.new) }
 {
     let hold = control.hold.as_slice()[0];
     let comings = drive_flights(
