@@ -100,11 +100,10 @@ module _ (by : Dependence) (design : Design) (d : Draft) (driven : List ℕ) whe
   indices_served file port [] rest used = tt
   indices_served file port (w ∷ indices) rest used =
       let here : port + 0 ≡ port = omega arith in
-      let b = is_port_used design (file_read file port) in
-      (
+      let b = is_port_used design (file_read file port) in (
         one w b (λ e. used 0 w refl (ap (λ n. is_port_used design (file_read file n)) here ∙ e)) (All-front (IsAtRest d) (unless_used b (w ∷ [])) (idle_indices design file (port + 1) indices) rest),
         indices_served file (port + 1) indices (All-back (IsAtRest d) (unless_used b (w ∷ [])) (idle_indices design file (port + 1) indices) rest)
-        (λ i v at e. let next : port + suc i ≡ port + 1 + i = omega arith in used (suc i) v at (ap (λ n. is_port_used design (file_read file n)) next ∙ e)),
+            (λ i v at e. let next : port + suc i ≡ port + 1 + i = omega arith in used (suc i) v at (ap (λ n. is_port_used design (file_read file n)) next ∙ e)),
       )
 
   files_served : (file : ℕ) (files : List FileNets) → Each (IsAtRest d) (idle_of_files design file files)
@@ -124,11 +123,10 @@ module _ (by : Dependence) (design : Design) (d : Draft) (driven : List ℕ) whe
   mems_served mem [] rest used = tt
   mems_served mem (m ∷ mems) rest used =
       let here : mem + 0 ≡ mem = omega arith in
-      let b = is_port_used design (mem_read mem) in
-      (
+      let b = is_port_used design (mem_read mem) in (
         one m.read_address b (λ e. used 0 m refl (ap (λ k. is_port_used design (mem_read k)) here ∙ e)) (All-front (IsAtRest d) (unless_used b (m.read_address ∷ [])) (idle_of_mems design (mem + 1) mems) rest),
         mems_served (mem + 1) mems (All-back (IsAtRest d) (unless_used b (m.read_address ∷ [])) (idle_of_mems design (mem + 1) mems) rest)
-        (λ k x at e. let next : mem + suc k ≡ mem + 1 + k = omega arith in used (suc k) x at (ap (λ n. is_port_used design (mem_read n)) next ∙ e)),
+            (λ k x at e. let next : mem + suc k ≡ mem + 1 + k = omega arith in used (suc k) x at (ap (λ n. is_port_used design (mem_read n)) next ∙ e)),
       )
 
 pub reads_are_served : ReadsAreServed

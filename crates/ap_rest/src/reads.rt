@@ -62,11 +62,7 @@ fn add_idle_files(
 }
 
 /// Adds the read addresses of the memories that no line reads.
-fn add_idle_mems(
-    nets: &mut Items<Wire>,
-    design: &Design,
-    mems: &[MemPorts],
-) -> Result<(), NoMemory>
+fn add_idle_mems(nets: &mut Items<Wire>, design: &Design, mems: &[MemPorts]) -> Result<(), NoMemory>
     requires many { length mems.now ≤ 4 }
     ensures { OnOk result (nets.new ≡ nets.old ++ idle_of_mems design.now 0 mems.now) }
 {
@@ -143,11 +139,7 @@ pub fn rest_reads(
 
 /// Drives the outputs at which a memory is written, of each memory that no line writes, by the constant 0. `mems` has the ports of the
 /// design's memories. After an error the builder is good for nothing but to be dropped.
-pub fn rest_outputs(
-    out: &mut Builder,
-    design: &Design,
-    mems: &[MemPorts],
-) -> Result<(), NoMemory>
+pub fn rest_outputs(out: &mut Builder, design: &Design, mems: &[MemPorts]) -> Result<(), NoMemory>
     requires clean { IsClean design.now }
     requires fresh { CanFresh out.old }
     requires mems { length mems.now ≡ length design.now.mems }
