@@ -1,6 +1,6 @@
 -- Units that no line uses, by what a top knows of modules.
-use Rattle.std.proofs.Common.{◌≡◌, ℕ, zero, suc, ◌≤◌, true, false, List, [], ◌∷◌, ◌++◌, Some, refl, sym, ap, subst, ◌∙◌, append-nil}
-use Rattle.std.specs.Prelude.{if◌then◌else◌, nat_lt, slice_get}
+use Rattle.std.proofs.Common.{◌≡◌, ℕ, zero, suc, List, [], ◌∷◌, Some, refl, sym, ap, subst, ◌∙◌, append-nil}
+use Rattle.std.specs.Prelude.{if◌then◌else◌, slice_get}
 use Rattle.std.specs.List.{AllByRecursion as Each}
 use Rattle.std.proofs.lemmas.Bool.{le-ltb}
 use Rattle.std.proofs.lemmas.Option.{same_Some}
@@ -9,7 +9,6 @@ use Rattle.ap_bits.specs.declared.card.Latency.TheVariants.{One, WidthPlusOne}
 use Rattle.ap_desc.specs.Clean.{FitsCards}
 use Rattle.ap_desc.specs.declared.design.Design.{Design}
 use Rattle.ap_desc.specs.declared.design.Unit.{Unit as Resource}
-use Rattle.ap_net.specs.declared.cell.Wire.{Wire}
 use Rattle.ap_net.specs.declared.net.Instance.{Instance}
 use Rattle.ap_net.specs.declared.net.Port.{Port}
 use Rattle.ap_net.specs.Draft.{Draft}
@@ -17,9 +16,8 @@ use Rattle.ap_net.specs.Modules.{IsInstanceIn, ModuleText}
 use Rattle.ap_ctl.specs.Lists.{EachPair}
 use Rattle.ap_unit.specs.Units.{ports_by}
 use Rattle.ap_parts.specs.Known.{AreKnown, HasParts, InstancesFit, IsFoundWith, Knows, StandsThere, UnitsAreFound, known_ports}
-use Rattle.ap_rest.specs.Idle.{HaveQuickModules, IdlesUnits, IsIdleUnit}
+use Rattle.ap_rest.specs.Idle.{HaveQuickModules, IsIdleUnit}
 use Rattle.ap_rest.specs.Fitting.{IdleFitParts, IdlesGrow, KnownAreQuick, RestsGrow}
-use Rattle.ap_rest.specs.Reads.{RestsLate}
 
 pair_there : {X Y : Type 0} (P : X → Y → Type 0) (xs : List X) (ys : List Y) → EachPair P xs ys → (i : ℕ) (x : X) → slice_get xs i ≡ Some x → (y : Y) × (slice_get ys i ≡ Some y) × P x y
 pair_there P [] ys h i x at = cc

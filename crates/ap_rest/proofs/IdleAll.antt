@@ -1,6 +1,6 @@
 -- Units that no line uses, one after the other.
 use Rattle.std.proofs.Common.{◌≡◌, ◌≢◌, ℕ, zero, suc, ◌+◌, ◌<◌, ◌≤◌, ◌&&◌, Bool, true, false, if◌then◌else◌, List, [], ◌∷◌, ◌++◌, filter, length, map, refl, sym, ap, subst, ◌∙◌, arith, append-nil}
-use Rattle.std.specs.Prelude.{nat_lt, not, slice_get, Option, Some, None}
+use Rattle.std.specs.Prelude.{nat_lt, not, slice_get, Option, Some}
 use Rattle.std.specs.Option.{option_map_or}
 use Rattle.std.specs.List.{AllByRecursion as Each, range_with_len}
 use Rattle.std.proofs.lemmas.Bool.{ltb-false}
@@ -16,7 +16,6 @@ use Rattle.ap_net.specs.Modules.{ModuleText}
 use Rattle.ap_net.specs.Names.{IsNew}
 use Rattle.ap_net.proofs.Laws.{IsNotNumbered-other}
 use Rattle.ap_signals.specs.NetRuns.{unit_part}
-use Rattle.ap_ctl.specs.Given.{is_slow_unit}
 use Rattle.ap_ctl.specs.Lists.{EachPair}
 use Rattle.ap_ctl.proofs.Beside.{EachPair-push, EachPair-weaker}
 use Rattle.ap_front.proofs.Apart.{Once, each_range, filter_each, once_back, same_place}

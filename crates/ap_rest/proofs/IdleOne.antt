@@ -3,7 +3,6 @@ use Rattle.std.proofs.Common.{◌≡◌, ◌≢◌, ℕ, ◌<◌, ◌≤◌, Lis
 use Rattle.std.specs.Prelude.{◌⊎◌, codes, slice_get, Some}
 use Rattle.std.specs.List.{AllByRecursion as Each}
 use Rattle.std.proofs.lemmas.Bool.{cases_lt}
-use Rattle.std.proofs.lemmas.Option.{slice_get_within}
 use Rattle.ap_bits.specs.declared.card.Latency.TheVariants.{One}
 use Rattle.ap_desc.specs.declared.design.Unit.{Unit as Resource}
 use Rattle.ap_net.specs.declared.cell.Wire.{Wire}
@@ -25,7 +24,6 @@ use Rattle.ap_stage.specs.Placed.{PlacesUnit}
 use Rattle.ap_bank.specs.Joins.{IsAtRest}
 use Rattle.ap_bank.specs.Placed.{IsFit}
 use Rattle.ap_bank.proofs.Joined.{rest_later}
-use Rattle.ap_steps.specs.Intervals.{CameAfter}
 use Rattle.ap_rest.specs.Idle.{AddsIdle, IsIdleInstance, PlacesIdle}
 
 -- The ports of the module.

@@ -1,5 +1,5 @@
 -- Lists of nets that no line drives, one port after the other.
-use Rattle.std.proofs.Common.{◌≡◌, ℕ, zero, suc, ◌+◌, ◌<◌, ◌≤◌, ◌&&◌, Bool, true, false, List, [], ◌∷◌, ◌++◌, drop, length, refl, sym, ap, subst, ◌∙◌, arith, append-nil, append_assoc}
+use Rattle.std.proofs.Common.{◌≡◌, ℕ, zero, suc, ◌+◌, ◌≤◌, ◌&&◌, Bool, true, false, List, [], ◌∷◌, ◌++◌, drop, length, refl, sym, ap, subst, ◌∙◌, arith, append-nil, append_assoc}
 use Rattle.std.specs.Prelude.{nat_le, slice_get, Some}
 use Rattle.std.specs.List.{AllByRecursion as Each, list_all}
 use Rattle.std.proofs.lemmas.Bool.{and_parts, leb-true}
@@ -9,10 +9,9 @@ use Rattle.ap_desc.specs.Ports.{file_read, mem_read, mem_write}
 use Rattle.ap_desc.specs.declared.design.Design.{Design}
 use Rattle.ap_desc.specs.declared.design.File.{File}
 use Rattle.ap_net.specs.declared.cell.Wire.{Wire}
-use Rattle.ap_net.specs.Draft.{CanFresh, Draft, names_of}
+use Rattle.ap_net.specs.Draft.{CanFresh, Draft}
 use Rattle.ap_net.specs.Modules.{ports_among}
 use Rattle.ap_net.specs.Names.{HasFresh, IsNew}
-use Rattle.ap_net.specs.Ready.{numbers}
 use Rattle.ap_net.specs.Draft.{wire_count}
 use Rattle.ap_net.specs.Wiring.{names_taken}
 use Rattle.ap_ctl.specs.Lists.{EachPair}

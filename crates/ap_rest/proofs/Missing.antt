@@ -1,13 +1,12 @@
 -- No net is named for a memory that a design doesn't have.
-use Rattle.std.proofs.Common.{◌≡◌, ◌≢◌, ℕ, ◌+◌, ◌≤◌, ◌==◌, true, false, List, [], ◌∷◌, ◌++◌, drop, length, map, flat_map, Option, None, Some, refl, sym, ap, subst, ◌∙◌, arith}
-use Rattle.std.specs.Prelude.{codes, slice_get}
+use Rattle.std.proofs.Common.{◌≡◌, ◌≢◌, ℕ, ◌+◌, ◌==◌, true, false, List, [], ◌∷◌, ◌++◌, drop, map, flat_map, Option, None, Some, refl, sym, ap, subst, ◌∙◌}
+use Rattle.std.specs.Prelude.{codes}
 use Rattle.std.specs.List.{AllByRecursion as Each}
 use Rattle.std.specs.Option.{option_map_or}
 use Rattle.std.proofs.lemmas.Bool.{eqb-false}
 use Rattle.std.proofs.lemmas.Option.{slice_get_past}
 use Rattle.ap_bits.specs.Names.{IsName}
 use Rattle.ap_desc.specs.Clean.{IsClean}
-use Rattle.ap_desc.specs.Parts.{mem_names}
 use Rattle.ap_desc.specs.declared.design.Design.{Design}
 use Rattle.ap_desc.specs.declared.design.InPort.{InPort as Input}
 use Rattle.ap_desc.specs.declared.design.Mem.{Mem}
@@ -15,7 +14,6 @@ use Rattle.ap_desc.specs.declared.design.Reg.{Reg}
 use Rattle.ap_model.specs.declared.storage.WritePort.{WritePort}
 use Rattle.ap_model.specs.declared.storage.WritePort.TheVariants as port
 use Rattle.ap_model.specs.Ports.{write_groups}
-use Rattle.ap_model.proofs.ListLemmas.{each_flat_map}
 use Rattle.ap_net.specs.declared.net.ModuleNet.{ModuleNet}
 use Rattle.ap_net.specs.declared.net.Port.{Port}
 use Rattle.ap_net.specs.Modules.{port_net}
@@ -34,7 +32,7 @@ use Rattle.ap_front.specs.Opened.{front_plan}
 use Rattle.ap_front.specs.Ports.{group_ports_of, input_of, mem_of, ports_of_group, top_ports}
 use Rattle.ap_front.proofs.PartNames.{bar, named_parts, plain, stem, stem_of}
 use Rattle.ap_front.proofs.PortChain.{top_ports_are}
-use Rattle.ap_rest.specs.Memories.{HasNoMemory, MissingMemoriesHaveNone}
+use Rattle.ap_rest.specs.Memories.{MissingMemoriesHaveNone}
 
 -- The name, and names that differ from it in one of their first two letters.
 

@@ -1,10 +1,8 @@
 -- Each index is driven by a stage, or always 0.
-use Rattle.std.proofs.Common.{◌≡◌, ℕ, zero, suc, ◌+◌, ◌*◌, ◌-◌, ◌≤◌, ◌<◌, Bool, true, false, List, [], ◌∷◌, ◌++◌, Some, flat_map, length, refl, sym, ap, subst, ◌∙◌, arith, inl, inr}
-use Rattle.std.specs.Prelude.{◌⊎◌, slice_get}
+use Rattle.std.proofs.Common.{◌≡◌, ℕ, zero, suc, ◌+◌, ◌*◌, ◌<◌, Bool, true, false, List, [], ◌∷◌, Some, flat_map, length, refl, sym, ap, subst, ◌∙◌, arith, inl, inr}
+use Rattle.std.specs.Prelude.{slice_get}
 use Rattle.std.specs.List.{AllByRecursion as Each}
 use Rattle.std.proofs.lemmas.Option.{same_Some, slice_get_within}
-use Rattle.ap_desc.specs.Chains.{IsChainOrder, IsNodeOf}
-use Rattle.ap_desc.specs.Clean.{IsClean}
 use Rattle.ap_desc.specs.Ports.{file_read, mem_read}
 use Rattle.ap_desc.specs.declared.design.Design.{Design}
 use Rattle.ap_desc.specs.declared.design.Node.{Node as DesignNode}
@@ -13,13 +11,11 @@ use Rattle.ap_merge.specs.declared.table.Select.{Select}
 use Rattle.ap_net.specs.declared.cell.Wire.{Wire}
 use Rattle.ap_net.specs.Draft.{Draft}
 use Rattle.ap_net.specs.Pending.{Among}
-use Rattle.ap_net.specs.Ready.{Dependence, ReadyAfter, numbers}
+use Rattle.ap_net.specs.Ready.{Dependence, numbers}
 use Rattle.ap_net.proofs.Lists.{All-back, All-front, All-join}
 use Rattle.ap_ports.proofs.Members.{place_of}
-use Rattle.ap_ports.specs.Numbers.{IsNumberedNode, number_of_node}
-use Rattle.ap_course.specs.Choices.{port_of_node}
+use Rattle.ap_ports.specs.Numbers.{number_of_node}
 use Rattle.ap_stage.specs.declared.chain.Node.{Node}
-use Rattle.ap_stage.specs.declared.chain.Node.TheVariants as node
 use Rattle.ap_stage.specs.declared.serve.ReadPort.{ReadPort}
 use Rattle.ap_stage.specs.Served.{stage_wires, wires_of}
 use Rattle.ap_stages.specs.Supplies.{IsNodeBy, supply_of}
@@ -30,8 +26,8 @@ use Rattle.ap_bank.specs.declared.bank.FileNets.{FileNets}
 use Rattle.ap_bank.specs.Joins.{IsAtRest}
 use Rattle.ap_front.specs.declared.ports.MemPorts.{MemPorts}
 use Rattle.ap_steps.specs.TopOrder.{IsServed}
-use Rattle.ap_rest.specs.Reads.{idle_indices, idle_of_files, idle_of_mems, idle_reads, unless_used}
-use Rattle.ap_rest.specs.Serving.{AreServed, IsIndexOf, ReadsAreServed, ServeIndices, StagesDriveUsed, UsedAreAmong, UsedAreNodes}
+use Rattle.ap_rest.specs.Reads.{idle_indices, idle_of_files, idle_of_mems, unless_used}
+use Rattle.ap_rest.specs.Serving.{IsIndexOf, ReadsAreServed, StagesDriveUsed, UsedAreNodes}
 use Rattle.ap_rest.specs.Uses.{is_port_used}
 use Rattle.ap_rest.proofs.Used.{node_numbered}
 

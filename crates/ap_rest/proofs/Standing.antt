@@ -1,10 +1,9 @@
 -- What lets units and nets that no line uses be put at rest.
 use Rattle.std.proofs.Common.{◌≡◌, ◌≢◌, ℕ, suc, ◌+◌, ◌-◌, ◌≤◌, ◌&&◌, Bool, true, false, List, [], ◌∷◌, ◌++◌, Some, flat_map, refl, sym, ap, subst, ◌∙◌, arith, append_assoc, inl, inr}
-use Rattle.std.specs.Prelude.{◌⊎◌, nat_lt, not, slice_get}
+use Rattle.std.specs.Prelude.{◌⊎◌, not, slice_get}
 use Rattle.std.specs.List.{AllByRecursion as Each}
 use Rattle.std.proofs.lemmas.Bool.{and_parts, le-ltb}
 use Rattle.ap_desc.specs.Chains.{IsNodeOf}
-use Rattle.ap_desc.specs.Clean.{IsClean}
 use Rattle.ap_desc.specs.Ports.{file_read, mem_read, mem_write, unit}
 use Rattle.ap_desc.specs.declared.design.Design.{Design}
 use Rattle.ap_desc.specs.declared.design.Node.TheVariants as design_node
@@ -16,7 +15,7 @@ use Rattle.ap_net.specs.Late.{IsLate}
 use Rattle.ap_net.specs.Modules.{ModuleText}
 use Rattle.ap_net.specs.Ready.{numbers}
 use Rattle.ap_net.specs.Wiring.{NoneTwice}
-use Rattle.ap_net.proofs.Lists.{All-back, All-front, All-join, All-map, All-unmap}
+use Rattle.ap_net.proofs.Lists.{All-back, All-join, All-map, All-unmap}
 use Rattle.ap_signals.specs.NetRuns.{unit_part}
 use Rattle.ap_ctl.specs.Given.{is_slow_unit}
 use Rattle.ap_ctl.specs.Lists.{EachPair}

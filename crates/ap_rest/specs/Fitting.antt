@@ -4,14 +4,13 @@ use Rattle.std.specs.List.{AllByRecursion as Each}
 use Rattle.ap_bits.specs.declared.card.Card.{Card}
 use Rattle.ap_desc.specs.Clean.{FitsCards}
 use Rattle.ap_desc.specs.declared.design.Design.{Design}
-use Rattle.ap_net.specs.declared.net.Instance.{Instance}
 use Rattle.ap_net.specs.Draft.{Draft}
 use Rattle.ap_net.specs.Modules.{IsInstanceIn, ModuleText}
 use Rattle.ap_parts.specs.Known.{AreKnown, HasParts, Knows}
 use Rattle.ap_steps.specs.Steps.{Grows}
 use Rattle.ap_steps.specs.TopOrder.{step}
 use Rattle.ap_net.specs.declared.cell.Wire.{Wire}
-use Rattle.ap_rest.specs.Idle.{HaveQuickModules, IdlesUnits, idle_units}
+use Rattle.ap_rest.specs.Idle.{HaveQuickModules, IdlesUnits}
 use Rattle.ap_rest.specs.Reads.{RestsLate}
 
 -- By the places of known modules each unit of one cycle has its module.

@@ -1,5 +1,5 @@
 -- Nets of a processor's top that no line drives: the indices of read ports, and the outputs at which a memory is written. They are always 0.
-use Rattle.std.specs.Prelude.{◌≡◌, ℕ, ◌+◌, ◌≤◌, true, false, Bool, List, [], ◌∷◌, ◌++◌, length, slice_get, Some}
+use Rattle.std.specs.Prelude.{◌≡◌, ℕ, ◌+◌, ◌≤◌, true, false, Bool, List, [], ◌∷◌, ◌++◌, length}
 use Rattle.std.specs.List.{AllByRecursion as Each}
 use Rattle.ap_desc.specs.Ports.{file_read, mem_read, mem_write}
 use Rattle.ap_desc.specs.declared.design.Design.{Design}

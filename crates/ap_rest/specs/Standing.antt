@@ -1,6 +1,5 @@
 -- What lets units and nets that no line uses be put at rest: their names are new, and their wires are still to be driven.
 use Rattle.std.specs.Prelude.{◌≡◌, ◌⊎◌, ℕ, ◌-◌, ◌≤◌, true, false, List, [], ◌∷◌, ◌++◌, Some, flat_map, slice_get}
-use Rattle.std.specs.List.{AllByRecursion as Each}
 use Rattle.ap_desc.specs.Chains.{IsNodeOf}
 use Rattle.ap_desc.specs.Clean.{IsClean}
 use Rattle.ap_desc.specs.declared.design.Design.{Design}

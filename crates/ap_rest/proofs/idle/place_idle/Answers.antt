@@ -7,7 +7,7 @@ use Rattle.ap_stage.specs.Placed.{PlacesUnit}
 use Rattle.ap_signals.specs.NetRuns.{unit_part}
 use Rattle.ap_slow.proofs.PlacedOne.{part_is_name}
 use Rattle.ap_bank.specs.Placed.{IsFit}
-use Rattle.ap_rest.proofs.IdleOne.{adds_made, adds_more, first_width, fit_ports, places_idle, rests_zero}
+use Rattle.ap_rest.proofs.IdleOne.{adds_made, first_width, fit_ports, places_idle, rests_zero}
 use Rattle.ap_rest.proofs.idle.place_idle.Goals as goal
 
 pub zero-requires-clause-low : goal.zero-requires-clause-low

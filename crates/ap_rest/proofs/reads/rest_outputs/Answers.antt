@@ -1,4 +1,4 @@
-use Rattle.std.proofs.Common.{sym, subst, ◌≤◌, length, arith, ◌∙◌}
+use Rattle.std.proofs.Common.{sym, subst, arith, ◌∙◌}
 use Rattle.ap_bank.specs.Joins.{AreLate, RestsNets}
 use Rattle.ap_rest.proofs.Listed.{few_mems, rests_late}
 use Rattle.ap_rest.specs.Reads.{idle_writes}
