@@ -1,5 +1,5 @@
 -- Which outputs there are: those of each port through which some line writes.
-use Rattle.std.proofs.Common.{◌≡◌, ℕ, zero, suc, ◌+◌, ◌-◌, ◌<◌, ◌≤◌, ◌==◌, Bool, true, false, not, if◌then◌else◌, List, [], ◌∷◌, ◌++◌, filter, flat_map, length, map, reverse, take, Some, inl, inr, refl, sym, ap, subst, ◌∙◌, arith}
+use Rattle.std.proofs.Common.{◌≡◌, ℕ, zero, suc, ◌+◌, ◌-◌, ◌<◌, ◌≤◌, ◌==◌, Bool, true, false, if◌then◌else◌, List, [], ◌∷◌, ◌++◌, filter, flat_map, length, map, reverse, take, Some, inl, inr, refl, sym, ap, subst, ◌∙◌, arith}
 use Rattle.std.specs.Prelude.{◌⊎◌, slice_get}
 use Rattle.std.proofs.lemmas.Bool.{cases_lt, eqb-false, eqb-true}
 use Rattle.std.specs.List.{AllByRecursion as Each, range_with_len}
@@ -27,7 +27,6 @@ use Rattle.ap_act.specs.Outputs.{group_outputs, mem_outputs, shown_outputs, writ
 use Rattle.ap_act.proofs.Lines.{used_somewhere}
 
 -- Members of lists.
-
 
 each_member : {X : Type 0} (xs : List X) → Each (λ x. In x xs) xs
 each_member [] = tt
@@ -129,10 +128,10 @@ module _ (design : Design) (d : Draft) (p : Ports) (has : HasPorts design d p) (
   all_goals =
       each_both Goal (reg_ports design ++ flat_map (file_ports design) (range_with_len 0 (length design.files))) (mem_ports design)
       (each_both Goal (reg_ports design) (flat_map (file_ports design) (range_with_len 0 (length design.files)))
-          (All-from (λ q. In q (reg_ports design)) Goal reg_goal (reg_ports design) (each_member (reg_ports design)))
-          (each_flat_map Goal (file_ports design) (range_with_len 0 (length design.files))
-              (All-from (λ f. In f (range_with_len 0 (length design.files))) (λ f. Each Goal (file_ports design f)) (λ f there. All-from (λ q. In q (file_ports design f)) Goal (cell_goal f there) (file_ports design f) (each_member (file_ports design f)))
-              (range_with_len 0 (length design.files)) (each_member (range_with_len 0 (length design.files))))))
+      (All-from (λ q. In q (reg_ports design)) Goal reg_goal (reg_ports design) (each_member (reg_ports design)))
+      (each_flat_map Goal (file_ports design) (range_with_len 0 (length design.files))
+      (All-from (λ f. In f (range_with_len 0 (length design.files))) (λ f. Each Goal (file_ports design f)) (λ f there. All-from (λ q. In q (file_ports design f)) Goal (cell_goal f there) (file_ports design f) (each_member (file_ports design f)))
+      (range_with_len 0 (length design.files)) (each_member (range_with_len 0 (length design.files))))))
       (each_of_map Goal port.Memory (range_with_len 0 (length design.mems)) (each_in_range (λ k. Goal (port.Memory k)) 0 (length design.mems) (λ k above below. mem_goal k (omega arith))))
 
   one_goal : (q : WritePort) → IsPort design q → Goal q
