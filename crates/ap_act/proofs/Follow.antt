@@ -1,9 +1,8 @@
 -- What follows from writes and transfer: for the border, and for the order in which nets are ready.
-use Rattle.std.proofs.Common.{◌≡◌, ◌≢◌, ℕ, zero, suc, ◌+◌, ◌-◌, ◌≤◌, ◌<◌, Bool, true, false, if◌then◌else◌, List, [], ◌∷◌, ◌++◌, flat_map, length, map, Some, inl, inr, refl, sym, ap, subst, ◌∙◌, append-nil, arith}
+use Rattle.std.proofs.Common.{◌≡◌, ℕ, suc, ◌+◌, ◌-◌, ◌≤◌, Bool, true, false, if◌then◌else◌, List, [], ◌∷◌, flat_map, map, Some, inl, inr, refl, sym, ap, subst, ◌∙◌, append-nil, arith}
 use Rattle.std.specs.Prelude.{slice_get}
 use Rattle.std.specs.List.{AllByRecursion as Each}
 use Rattle.ap_desc.proofs.Members.{In}
-use Rattle.ap_desc.specs.Clean.{IsClean}
 use Rattle.ap_desc.specs.declared.design.Design.{Design}
 use Rattle.ap_model.specs.declared.storage.WritePort.{WritePort}
 use Rattle.ap_model.specs.declared.storage.WritePort.TheVariants as port
@@ -11,11 +10,10 @@ use Rattle.ap_model.specs.Ports.{is_used, is_used_in}
 use Rattle.ap_model.proofs.ListLemmas.{each_flat_map}
 use Rattle.ap_model.proofs.WritesApart.{writes_apart}
 use Rattle.ap_net.specs.declared.cell.Wire.{Wire}
-use Rattle.ap_net.specs.declared.net.Instance.{Instance}
 use Rattle.ap_net.specs.Draft.{Draft, Extends}
 use Rattle.ap_net.specs.Modules.{ModuleText}
 use Rattle.ap_net.specs.Pending.{Among}
-use Rattle.ap_net.specs.Ready.{Dependence, ReadyAfter, numbers}
+use Rattle.ap_net.specs.Ready.{Dependence, ReadyAfter}
 use Rattle.ap_net.proofs.Laws.{Carries-Extends, Extends-trans}
 use Rattle.ap_net.proofs.Lists.{All-at, All-back, All-from, All-front, All-join, All-unmap, some_same}
 use Rattle.ap_ctl.specs.declared.nets.ControlGiven.{ControlGiven}
@@ -26,8 +24,6 @@ use Rattle.ap_ctl.proofs.Beside.{EachFrom-at}
 use Rattle.ap_ctl.proofs.Built.{among_all}
 use Rattle.ap_front.specs.declared.ports.GroupPorts.{GroupPorts}
 use Rattle.ap_front.specs.declared.ports.MemPorts.{MemPorts}
-use Rattle.ap_front.specs.declared.ports.Ports.{Ports}
-use Rattle.ap_front.specs.Ports.{HasPorts}
 use Rattle.ap_front.proofs.PortNets.{ports_go_on}
 use Rattle.ap_stages.specs.declared.stage.ServedStage.{ServedStage}
 use Rattle.ap_slow.specs.Driven.{DrivesLate}
@@ -37,10 +33,9 @@ use Rattle.ap_whole.specs.Effects.{HasTransfer, HasWrites}
 use Rattle.ap_whole.specs.Handed.{AreInstrCourses, course_value}
 use Rattle.ap_commit.specs.Standing.{IsPortShown, JoinedPortsShow, TransferStands, WritesStand}
 use Rattle.ap_act.specs.declared.outputs.PortOutputs.{PortOutputs}
-use Rattle.ap_act.specs.Acting.{IsPortWritten, WritesAll, acting}
-use Rattle.ap_act.specs.Follow.{HaveInstrs, RestFollows, ShowFires, ShowValid, TransferIsMade, TransferIsReady, WritesAreMade, WritesAreReady, group_numbers, mem_write}
+use Rattle.ap_act.specs.Acting.{IsPortWritten, acting}
+use Rattle.ap_act.specs.Follow.{HaveInstrs, ShowFires, TransferIsMade, TransferIsReady, WritesAreMade, WritesAreReady, group_numbers, mem_write}
 use Rattle.ap_act.specs.Outputs.{IsOutputOf, group_outputs, mem_outputs, output_numbers, shown_outputs, written_mems}
-use Rattle.ap_act.specs.Taken.{TakesTransfer}
 use Rattle.ap_act.proofs.Lines.{branch_within}
 use Rattle.ap_act.proofs.Named.{outputs_are_named}
 use Rattle.ap_act.proofs.HasOutputs.{output_of}

@@ -1,7 +1,7 @@
 -- The stage whose lines write through a port has such lines, and few.
 use Rattle.std.proofs.Common.{◌≡◌, ◌≢◌, ℕ, zero, suc, ◌+◌, ◌-◌, ◌<◌, ◌≤◌, ◌==◌, ◌&&◌, ◌||◌, Bool, true, false, if◌then◌else◌, List, [], ◌∷◌, ◌++◌, flat_map, length, filter_map, Option, Some, None, refl, inl, inr, sym, ap, subst, ◌∙◌, arith}
 use Rattle.std.specs.Prelude.{◌⊎◌, find, nat_le, not, option_and_then}
-use Rattle.std.specs.List.{AllByRecursion as Each, cons_option, enumerate_from, list_all, list_any}
+use Rattle.std.specs.List.{cons_option, enumerate_from, list_all, list_any}
 use Rattle.std.proofs.lemmas.Bool.{and_parts, cases_lt, leb-true}
 use Rattle.ap_desc.specs.Clean.{IsClean}
 use Rattle.ap_desc.specs.Designs.{is_instr_within, is_mem_within}

@@ -1,9 +1,8 @@
 -- The outputs have their names and their bits, and each port through which some line writes has its outputs.
-use Rattle.std.proofs.Common.{◌≡◌, ℕ, zero, suc, ◌+◌, ◌<◌, Bool, true, false, if◌then◌else◌, List, [], ◌∷◌, ◌++◌, filter, flat_map, length, map, Option, Some, None, refl, sym, ap, subst, ◌∙◌, arith}
+use Rattle.std.proofs.Common.{◌≡◌, ℕ, suc, ◌+◌, Bool, true, false, if◌then◌else◌, List, [], ◌∷◌, filter, flat_map, length, map, Option, Some, None, refl, sym, ap, subst, ◌∙◌, arith}
 use Rattle.std.specs.Prelude.{codes, option_map, slice_get}
 use Rattle.std.specs.List.{AllByRecursion as Each, range_with_len}
 use Rattle.std.specs.Option.{option_map_or}
-use Rattle.ap_desc.specs.Clean.{IsClean}
 use Rattle.ap_desc.specs.Designs.{index_bits}
 use Rattle.ap_desc.specs.declared.design.Design.{Design}
 use Rattle.ap_desc.specs.declared.design.File.{File}
@@ -12,29 +11,25 @@ use Rattle.ap_desc.specs.declared.design.Reg.{Reg}
 use Rattle.ap_image.specs.declared.shape.MemShape.{MemShape}
 use Rattle.ap_model.specs.declared.storage.WritePort.{WritePort}
 use Rattle.ap_model.specs.declared.storage.WritePort.TheVariants as port
-use Rattle.ap_model.specs.Fitting.{port_width}
 use Rattle.ap_model.specs.Ports.{file_groups, file_ports, is_used, is_used_in, reg_ports, stages_from_last, write_groups}
 use Rattle.ap_model.proofs.ListLemmas.{each_all, each_flat_map}
 use Rattle.ap_net.specs.declared.cell.Wire.{Wire}
 use Rattle.ap_net.specs.Draft.{Draft}
 use Rattle.ap_net.specs.Outside.{Group, group_name, mem_name, output}
-use Rattle.ap_net.proofs.Lists.{All-both, All-from, All-join}
-use Rattle.ap_signals.specs.DesignOutside.{enable_name, group_of, group_of_file, index_name, mem_at, mem_shape, reg_group, value_name}
+use Rattle.ap_net.proofs.Lists.{All-from, All-join}
+use Rattle.ap_signals.specs.DesignOutside.{group_of, group_of_file, mem_at, mem_shape, reg_group}
 use Rattle.ap_ctl.specs.Lists.{EachPair}
 use Rattle.ap_border.specs.Named.{IsNamed}
 use Rattle.ap_front.specs.declared.ports.GroupPorts.{GroupPorts}
 use Rattle.ap_front.specs.declared.ports.MemPorts.{MemPorts}
-use Rattle.ap_front.specs.declared.ports.Ports.{Ports}
-use Rattle.ap_front.specs.Ports.{AreGroupPorts, AreMemPorts, ArePortsOf, HasPorts, IsIndex}
+use Rattle.ap_front.specs.Ports.{AreGroupPorts, AreMemPorts, ArePortsOf, IsIndex}
 use Rattle.ap_front.proofs.Apart.{each_filter}
 use Rattle.ap_front.proofs.GroupsOnce.{IsThere, groups_there}
 use Rattle.ap_front.proofs.PortNets.{port_named}
-use Rattle.ap_commit.specs.Standing.{IsIndexNamed, IsPortNamed}
-use Rattle.ap_commit.specs.Widths.{port_bits}
+use Rattle.ap_commit.specs.Standing.{IsIndexNamed}
 use Rattle.ap_act.specs.Follow.{OutputsAreNamed}
-use Rattle.ap_act.specs.Outputs.{IsOutputOf, IsSized, group_outputs, mem_outputs, shown_outputs, written_mems}
+use Rattle.ap_act.specs.Outputs.{IsOutputOf, group_outputs, mem_outputs, written_mems}
 use Rattle.ap_act.proofs.Lines.{used_somewhere}
-use Rattle.ap_act.specs.declared.outputs.PortOutputs.{PortOutputs}
 
 -- Some line writes through each port of the groups.
 

@@ -1,5 +1,5 @@
 -- No two ports of top are one net.
-use Rattle.std.proofs.Common.{◌≡◌, ◌≢◌, ℕ, zero, suc, ◌+◌, Bool, true, false, if◌then◌else◌, List, [], ◌∷◌, ◌++◌, flat_map, map, Option, Some, None, inl, inr, refl, sym, ap, subst, ◌∙◌, arith}
+use Rattle.std.proofs.Common.{◌≡◌, ◌≢◌, ℕ, suc, ◌+◌, Bool, true, false, if◌then◌else◌, List, [], ◌∷◌, ◌++◌, flat_map, map, Option, Some, None, inl, inr, refl, sym, ap, subst, ◌∙◌, arith}
 use Rattle.std.specs.Prelude.{◌⊎◌, option_to_list, slice_get}
 use Rattle.std.specs.List.{AllByRecursion as Each}
 use Rattle.ap_desc.specs.Clean.{IsClean}
@@ -27,11 +27,10 @@ use Rattle.ap_ctl.specs.Lists.{EachPair}
 use Rattle.ap_front.specs.declared.ports.GroupPorts.{GroupPorts}
 use Rattle.ap_front.specs.declared.ports.MemPorts.{MemPorts}
 use Rattle.ap_front.specs.declared.ports.Ports.{Ports}
-use Rattle.ap_front.specs.Ports.{AreGroupPorts, AreMemPorts, ArePortsOf, HasPorts, IsIndex, IsInput, IsPort, group_ports_of, input_of, mem_of, port_name, ports_of_group, top_ports}
+use Rattle.ap_front.specs.Ports.{AreGroupPorts, AreMemPorts, ArePortsOf, HasPorts, IsIndex, IsInput, group_ports_of, input_of, mem_of, port_name, ports_of_group, top_ports}
 use Rattle.ap_front.proofs.PortNames.{ports_are_new}
-use Rattle.ap_act.specs.Apart.{OutputsAreFree, PortsAreApart, group_ports, group_wires, mem_ports, mem_wires, ports_in_order}
+use Rattle.ap_act.specs.Apart.{OutputsAreFree, PortsAreApart, group_ports, mem_ports, mem_wires, ports_in_order}
 use Rattle.ap_act.specs.Outputs.{all_numbers, group_outputs, mem_outputs, output_numbers, output_wires, shown_outputs, written_mems}
-use Rattle.ap_act.specs.declared.outputs.PortOutputs.{PortOutputs}
 use Rattle.ap_act.proofs.Lists.{at_among, others, twice_back, twice_front}
 
 -- Lists of numbers.

@@ -1,9 +1,9 @@
 -- What the lines of a stage that was served hand in has nets.
-use Rattle.std.proofs.Common.{◌≡◌, ℕ, zero, suc, ◌+◌, ◌<◌, ◌≤◌, ◌==◌, ◌&&◌, Bool, true, false, if◌then◌else◌, List, [], ◌∷◌, ◌++◌, length, filter_map, take, Option, Some, None, inl, inr, refl, sym, ap, subst, ◌∙◌, arith}
-use Rattle.std.specs.Prelude.{◌⊎◌, IfSome, find, option_and_then, option_to_list, slice_get}
+use Rattle.std.proofs.Common.{◌≡◌, ℕ, zero, suc, ◌+◌, ◌<◌, ◌≤◌, ◌==◌, Bool, true, false, if◌then◌else◌, List, [], ◌∷◌, ◌++◌, length, filter_map, take, Option, Some, None, inl, inr, refl, sym, ap, subst, ◌∙◌, arith}
+use Rattle.std.specs.Prelude.{IfSome, find, option_and_then, option_to_list, slice_get}
 use Rattle.std.specs.List.{AllByRecursion as Each, cons_option, enumerate_from}
 use Rattle.std.proofs.lemmas.Bool.{and_parts, eqb-true}
-use Rattle.std.proofs.lemmas.Option.{same_Some, slice_get_within}
+use Rattle.std.proofs.lemmas.Option.{same_Some}
 use Rattle.ap_bits.specs.declared.card.Card.{Card}
 use Rattle.ap_desc.proofs.DesignLaws.{locals_by_lines}
 use Rattle.ap_desc.specs.Chains.{operands_of}
@@ -18,13 +18,9 @@ use Rattle.ap_desc.specs.declared.design.Design.{Design}
 use Rattle.ap_desc.specs.declared.design.Field.{Field}
 use Rattle.ap_desc.specs.declared.design.Instr.{Instr}
 use Rattle.ap_desc.specs.declared.design.Micro.{Micro}
-use Rattle.ap_desc.specs.declared.design.Node.{Node as DesignNode}
 use Rattle.ap_model.specs.Ports.{writes_through}
-use Rattle.ap_model.specs.Fitting.{assigned_width}
-use Rattle.ap_model.specs.FlightLocals.{is_live_in}
 use Rattle.ap_model.proofs.LineOrder.{count, widths_count}
-use Rattle.ap_net.specs.Draft.{Adds, Draft}
-use Rattle.ap_net.proofs.Lists.{All-at, All-both, All-from}
+use Rattle.ap_net.proofs.Lists.{All-at, All-both}
 use Rattle.ap_stage.specs.declared.node.Course.{Course}
 use Rattle.ap_stage.specs.declared.node.PortUse.{PortUse}
 use Rattle.ap_stage.specs.declared.row.Line.{Line}
@@ -36,13 +32,10 @@ use Rattle.ap_stage.proofs.Users.{courses_on}
 use Rattle.ap_course.specs.Instrs.{HasLive, IsCourseOf}
 use Rattle.ap_course.proofs.Makers.{good_at, line_at}
 use Rattle.ap_course.proofs.Whole.{line_operands}
-use Rattle.ap_stages.specs.Staged.{IsStaged}
-use Rattle.ap_stages.specs.declared.stage.ServedStage.{ServedStage}
 use Rattle.ap_stages.proofs.Same.{same_long}
 use Rattle.ap_effect.specs.declared.line.PortLine.{PortLine}
 use Rattle.ap_effect.specs.Lines.{handed_by, is_line_of, line_of, lines_of}
 use Rattle.ap_outcome.specs.Outcomes.{CanHandIn, CanName, HasCourse}
-use Rattle.ap_act.specs.Acting.{StageCanAct}
 use Rattle.ap_act.specs.Serving.{StagesCanAct}
 use Rattle.ap_act.proofs.Lists.{split}
 

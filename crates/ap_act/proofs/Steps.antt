@@ -1,10 +1,9 @@
 -- Drafts in which nets were made, and late wires were driven by copies of them.
-use Rattle.std.proofs.Common.{◌≡◌, ◌≢◌, ℕ, zero, suc, ◌+◌, arith, length, List, [], ◌∷◌, ◌++◌, flat_map, take, Option, Some, None, inl, inr, refl, sym, ap, subst, ◌∙◌}
-use Rattle.std.specs.Prelude.{option_map, option_to_list, slice_get}
+use Rattle.std.proofs.Common.{◌≡◌, ℕ, zero, suc, ◌+◌, arith, length, List, [], ◌∷◌, ◌++◌, flat_map, take, Option, Some, None, sym, ap, subst}
+use Rattle.std.specs.Prelude.{option_to_list, slice_get}
 use Rattle.std.specs.List.{AllByRecursion as Each}
 use Rattle.ap_desc.specs.declared.design.Design.{Design}
 use Rattle.ap_net.specs.declared.cell.Wire.{Wire}
-use Rattle.ap_net.specs.declared.net.Instance.{Instance}
 use Rattle.ap_net.specs.declared.net.ModuleNet.{ModuleNet}
 use Rattle.ap_net.specs.Draft.{Adds, CanFresh, Draft, Extends, KeepsNew, names_of, wire_count}
 use Rattle.ap_net.specs.Late.{IsLate}
@@ -14,7 +13,7 @@ use Rattle.ap_net.specs.Names.{HasFresh, IsNew}
 use Rattle.ap_net.specs.Pending.{Among, IsFrom}
 use Rattle.ap_net.specs.Ready.{Dependence, Ready, ReadyAfter, numbers}
 use Rattle.ap_net.specs.Wiring.{NoneTwice, names_taken}
-use Rattle.ap_net.proofs.Laws.{Extends-refl, Extends-trans, ReadyAfter-Extends}
+use Rattle.ap_net.proofs.Laws.{Extends-trans, ReadyAfter-Extends}
 use Rattle.ap_net.proofs.Lists.{All-both, All-front, All-back, All-from}
 use Rattle.ap_ctl.specs.Building.{IsBit}
 use Rattle.ap_ctl.proofs.Built.{IsBit-Extends, among_nets, ready_from}
@@ -24,9 +23,8 @@ use Rattle.ap_stage.proofs.Users.{courses_on}
 use Rattle.ap_stages.specs.declared.stage.ServedStage.{ServedStage}
 use Rattle.ap_effect.specs.declared.write.WriteNets.{WriteNets}
 use Rattle.ap_effect.specs.Writers.{write_wires}
-use Rattle.ap_bank.specs.Joins.{IsCopy, IsCopyIndex, JoinsPort, Wires, port_numbers}
+use Rattle.ap_bank.specs.Joins.{IsCopyIndex, JoinsPort, Wires, port_numbers}
 use Rattle.ap_slow.specs.Driven.{DrivesLate}
-use Rattle.ap_slow.proofs.DrivenOne.{drives_from, drives_more}
 use Rattle.ap_act.specs.Acting.{CanAct, StageCanAct, acting, stage_numbers}
 use Rattle.ap_act.specs.Outputs.{AreFree, all_numbers, output_numbers, output_wires}
 use Rattle.ap_act.specs.declared.outputs.PortOutputs.{PortOutputs}

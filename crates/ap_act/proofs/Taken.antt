@@ -1,18 +1,17 @@
 -- The transfer, where lines make one and where none does.
 use Rattle.std.proofs.lemmas.Bool.{eqb-true}
-use Rattle.std.proofs.Common.{◌≡◌, ℕ, suc, ◌+◌, ◌-◌, ◌≤◌, ◌==◌, ◌&&◌, Bool, true, false, List, [], ◌∷◌, ◌++◌, length, map, Some, inl, inr, refl, sym, ap, subst, ◌∙◌, arith}
+use Rattle.std.proofs.Common.{◌≡◌, ℕ, suc, ◌-◌, ◌≤◌, ◌==◌, ◌&&◌, Bool, true, false, List, [], ◌∷◌, length, Some, refl, sym, subst, ◌∙◌, arith}
 use Rattle.std.specs.Prelude.{slice_get}
-use Rattle.std.specs.List.{AllByRecursion as Each, list_any}
 use Rattle.ap_desc.specs.declared.design.Design.{Design}
 use Rattle.ap_net.specs.declared.cell.Wire.{Wire}
 use Rattle.ap_net.specs.Draft.{CanFresh, Draft, Extends}
 use Rattle.ap_net.specs.Late.{IsLate}
 use Rattle.ap_net.specs.Making.{Makes}
-use Rattle.ap_net.specs.Pending.{IsFrom, Yields}
-use Rattle.ap_net.specs.Readings.{Carries, Reading}
+use Rattle.ap_net.specs.Pending.{Yields}
+use Rattle.ap_net.specs.Readings.{Carries}
 use Rattle.ap_net.specs.Runs.{bit}
-use Rattle.ap_net.specs.Ready.{Dependence, Ready, ReadyAfter, numbers}
-use Rattle.ap_net.proofs.Laws.{Carries-Extends, Extends-trans, IsFrom-later, IsFrom-more, ReadyAfter-Extends, Reads-joined}
+use Rattle.ap_net.specs.Ready.{Ready, numbers}
+use Rattle.ap_net.proofs.Laws.{Carries-Extends, Extends-trans, IsFrom-later, IsFrom-more, Reads-joined}
 use Rattle.ap_ctl.specs.Building.{is_on}
 use Rattle.ap_ctl.proofs.Built.{ready_from}
 use Rattle.ap_stage.specs.declared.node.Course.{Course}
@@ -27,7 +26,6 @@ use Rattle.ap_effect.specs.Writers.{AreTransferNets, transfer_wires}
 use Rattle.ap_outcome.specs.Outcomes.{AreLineWriters}
 use Rattle.ap_bank.specs.Joins.{CanJoinNet, JoinsNet}
 use Rattle.ap_commit.specs.Written.{IsTransferred}
-use Rattle.ap_slow.specs.Driven.{DrivesLate}
 use Rattle.ap_slow.proofs.DrivenOne.{drives_from, drives_more}
 use Rattle.ap_act.specs.Acting.{acting, stage_numbers}
 use Rattle.ap_act.specs.Taken.{TakesTransfer}

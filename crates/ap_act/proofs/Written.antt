@@ -1,16 +1,15 @@
 -- One port after another is written, and shown at its outputs.
-use Rattle.std.proofs.Common.{◌≡◌, ℕ, ◌+◌, ◌-◌, ◌≤◌, true, List, [], ◌∷◌, ◌++◌, flat_map, length, take, Option, Some, None, refl, sym, ap, subst, ◌∙◌, arith}
+use Rattle.std.proofs.Common.{◌≡◌, ℕ, ◌+◌, ◌-◌, ◌≤◌, List, [], ◌∷◌, length, take, Option, Some, None, sym, ap, subst, ◌∙◌, arith}
 use Rattle.std.specs.Prelude.{option_map, option_to_list, slice_get}
 use Rattle.std.specs.List.{AllByRecursion as Each}
 use Rattle.ap_desc.specs.declared.design.Design.{Design}
-use Rattle.ap_model.specs.declared.storage.WritePort.{WritePort}
 use Rattle.ap_model.specs.declared.storage.WritePort.TheVariants as port
 use Rattle.ap_model.specs.Fitting.{port_width}
 use Rattle.ap_net.specs.declared.cell.Wire.{Wire}
 use Rattle.ap_net.specs.Draft.{CanFresh, Draft, Extends}
 use Rattle.ap_net.specs.Late.{IsLate}
 use Rattle.ap_net.specs.Making.{Makes}
-use Rattle.ap_net.specs.Ready.{Dependence, numbers}
+use Rattle.ap_net.specs.Ready.{numbers}
 use Rattle.ap_net.specs.Wiring.{NoneTwice}
 use Rattle.ap_net.proofs.Laws.{Extends-refl, Extends-trans}
 use Rattle.ap_net.proofs.Lists.{All-from, All-join}

@@ -1,9 +1,8 @@
 -- What the lines of the stages write, shown at the outputs of top.
-use Rattle.std.specs.Prelude.{◌≡◌, ℕ, ◌+◌, ◌-◌, ◌≤◌, true, List, ◌++◌, Some, flat_map, length, option_map, slice_get}
+use Rattle.std.specs.Prelude.{◌≡◌, ℕ, ◌+◌, ◌-◌, ◌≤◌, List, ◌++◌, Some, flat_map, length, option_map, slice_get}
 use Rattle.std.specs.List.{AllByRecursion as Each}
 use Rattle.ap_desc.specs.declared.design.Design.{Design}
 use Rattle.ap_model.specs.declared.storage.WritePort.{WritePort}
-use Rattle.ap_model.specs.Ports.{is_used_in}
 use Rattle.ap_net.specs.declared.cell.Wire.{Wire}
 use Rattle.ap_net.specs.Draft.{Draft, Extends}
 use Rattle.ap_net.specs.Ready.{Dependence, ReadyAfter, numbers}

@@ -25,7 +25,7 @@ use Rattle.ap_steps.specs.TopOrder.{Follows, StepFollows, step}
 use Rattle.ap_whole.specs.Effects.{HasTransfer, HasWrites}
 use Rattle.ap_whole.specs.Handed.{AreInstrCourses, course_value}
 use Rattle.ap_act.specs.Acting.{WritesAll, acting}
-use Rattle.ap_act.specs.Outputs.{AreFree, IsOutputOf, shown_outputs}
+use Rattle.ap_act.specs.Outputs.{IsOutputOf, shown_outputs}
 use Rattle.ap_act.specs.Taken.{TakesTransfer}
 
 -- In a clean design the outputs of all ports through which lines write have their names and their bits.

@@ -1,5 +1,5 @@
 -- The transfer: the wire that says that it is taken, and its target.
-use Rattle.std.specs.Prelude.{◌≡◌, ℕ, ◌-◌, List, [], ◌∷◌, Some, slice_get}
+use Rattle.std.specs.Prelude.{◌≡◌, ◌-◌, List, [], ◌∷◌, Some, slice_get}
 use Rattle.ap_desc.specs.declared.design.Design.{Design}
 use Rattle.ap_net.specs.declared.cell.Wire.{Wire}
 use Rattle.ap_net.specs.Cells.{IsNet}

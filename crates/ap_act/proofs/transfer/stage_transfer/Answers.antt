@@ -1,11 +1,11 @@
-use Rattle.std.proofs.Common.{◌≡◌, ◌≤◌, ℕ, List, false, length, Option, None, ap, sym, subst, ◌∙◌, arith, ◌==◌}
+use Rattle.std.proofs.Common.{◌≡◌, ◌≤◌, List, length, ap, sym, subst, ◌∙◌, arith}
 use Rattle.ap_merge.specs.Selects.{GoesOver}
 use Rattle.ap_stage.specs.declared.node.Course.{Course}
 use Rattle.ap_effect.specs.declared.line.PortLine.{PortLine}
 use Rattle.ap_effect.specs.Lines.{transfer_lines}
 use Rattle.ap_commit.specs.Written.{CanTransfer}
 use Rattle.ap_act.proofs.Lines.{few_transfers, instrs_few}
-use Rattle.ap_act.proofs.Taken.{from_none, lines_there, no_lines, none_transferred}
+use Rattle.ap_act.proofs.Taken.{lines_there}
 use Rattle.ap_act.proofs.transfer.stage_transfer.Goals as goal
 
 pub overflow_cast-len : goal.overflow_cast-len

@@ -1,4 +1,4 @@
-use Rattle.std.proofs.Common.{◌-◌, arith}
+use Rattle.std.proofs.Common.{◌-◌}
 use Rattle.ap_ctl.specs.Building.{IsBit}
 use Rattle.ap_net.proofs.Lists.{All-at}
 use Rattle.ap_act.proofs.Lines.{branch_within}

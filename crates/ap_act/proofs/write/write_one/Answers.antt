@@ -1,4 +1,4 @@
-use Rattle.std.proofs.Common.{◌-◌, ◌≤◌, List, ◌∷◌, sym, subst, arith}
+use Rattle.std.proofs.Common.{◌-◌, List, ◌∷◌, sym, subst}
 use Rattle.std.specs.List.{AllByRecursion as Each}
 use Rattle.ap_net.specs.Late.{IsLate}
 use Rattle.ap_net.specs.Ready.{numbers}
@@ -9,7 +9,6 @@ use Rattle.ap_stage.specs.Courses.{IsCourse, courses_numbers}
 use Rattle.ap_stage.specs.Reads.{AreFrom}
 use Rattle.ap_effect.specs.Writers.{write_wires}
 use Rattle.ap_commit.specs.Written.{CanWritePort, IsWritten}
-use Rattle.ap_act.specs.Outputs.{StageWrites}
 use Rattle.ap_act.proofs.Lines.{stage_of_used}
 use Rattle.ap_act.proofs.Written.{can_join, can_write, port_drives, port_written, stage_can}
 use Rattle.ap_act.proofs.write.write_one.Goals as goal
