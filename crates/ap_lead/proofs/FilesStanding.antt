@@ -10,11 +10,10 @@ use Rattle.ap_net.specs.declared.net.ModuleNet.{ModuleNet}
 use Rattle.ap_net.specs.Cells.{IsNet}
 use Rattle.ap_net.specs.Draft.{Draft, Extends}
 use Rattle.ap_net.specs.Late.{IsLate}
-use Rattle.ap_net.specs.Ready.{Dependence, ReadyAfter}
+use Rattle.ap_net.specs.Ready.{ReadyAfter}
 use Rattle.ap_net.proofs.Laws.{ReadyAfter-Extends}
 use Rattle.ap_net.proofs.Lists.{All-at, All-both, All-from, some_same}
 use Rattle.ap_net.proofs.Wired.{IsNet-more}
-use Rattle.ap_store.specs.FilePorts.{file_module_name}
 use Rattle.ap_ctl.specs.Lists.{EachPair}
 use Rattle.ap_ctl.proofs.Beside.{EachFrom-at, EachPair-weaker}
 use Rattle.ap_bank.specs.declared.bank.FileNets.{FileNets}
