@@ -10,3 +10,4 @@ pub mod Decimals
 pub mod IdlePorts
 pub mod Pigeons
 pub mod Leaving
+pub mod FilesStanding

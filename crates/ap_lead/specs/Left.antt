@@ -1,16 +1,24 @@
 -- What the first part of a top leaves to the pieces that come later: names, outputs and registers that take nothing yet.
-use Rattle.std.specs.Prelude.{◌≡◌, ℕ, ◌<◌, List, codes, length, option_to_list}
+use Rattle.std.specs.Prelude.{◌≡◌, ℕ, ◌<◌, List, [], ◌∷◌, codes, length, option_to_list}
 use Rattle.std.specs.List.{AllByRecursion as Each}
 use Rattle.ap_bits.specs.declared.card.Card.{Card}
 use Rattle.ap_desc.specs.declared.design.Design.{Design}
+use Rattle.ap_desc.specs.declared.design.File.{File}
 use Rattle.ap_desc.specs.declared.design.Unit.{Unit as Resource}
+use Rattle.ap_desc.specs.Designs.{index_bits}
+use Rattle.ap_net.specs.declared.cell.Wire.{Wire}
 use Rattle.ap_net.specs.Draft.{CanFresh, Draft, names_of}
 use Rattle.ap_net.specs.Late.{IsLate}
 use Rattle.ap_net.specs.Names.{IsNew}
-use Rattle.ap_net.specs.Ready.{Dependence}
+use Rattle.ap_net.specs.Ready.{Dependence, ReadyAfter}
 use Rattle.ap_net.specs.Wiring.{NoneTwice}
 use Rattle.ap_pipe.specs.declared.table.StageSlots.{StageSlots}
 use Rattle.ap_signals.specs.NetRuns.{unit_part, valid_name}
+use Rattle.ap_store.specs.FilePorts.{file_module_name}
+use Rattle.ap_ctl.specs.Lists.{EachPair}
+use Rattle.ap_bank.specs.declared.bank.FileNets.{FileNets}
+use Rattle.ap_bank.specs.LateNets.{IsLateWide}
+use Rattle.ap_bank.specs.Placed.{IsWide, NeedsAsFile}
 use Rattle.ap_front.specs.declared.ports.GroupPorts.{GroupPorts}
 use Rattle.ap_front.specs.declared.ports.MemPorts.{MemPorts}
 use Rattle.ap_front.specs.declared.ports.Ports.{Ports}
@@ -60,3 +68,16 @@ LeadsLeaveRest = (design : Design) (stages : List StageSlots) (made : Lead) (a :
 -- By the names of the modules that are built for a shelf, files depend as they do.
 abbrev pub KnownFilesNeed : Type 0
 KnownFilesNeed = (cards : List Card) (design : Design) (by : Dependence) → by.needs ≡ needs_by (unit_module_name cards) design → FilesNeed by design
+
+-- The nets at the read ports of a file: the indices have its bits and are driven later; what is shown has the bits of a cell, and is ready once
+-- its index is.
+pub record StandsFile (f : File) (nets : FileNets) (d : Draft) : Type 0 where
+  pub reads : length nets.indices ≡ f.reads
+  pub shows : length nets.shown ≡ f.reads
+  pub late : Each (IsLateWide d (index_bits f)) nets.indices
+  pub wide : Each (IsWide d.nets f.width) nets.shown
+  pub ready : (by : Dependence) → NeedsAsFile by (file_module_name f) → EachPair (λ (index value : Wire). ReadyAfter by d (index.number ∷ []) value.number) nets.indices nets.shown
+
+-- all files stand so
+abbrev pub LeadFilesStand : Type 0
+LeadFilesStand = (design : Design) (stages : List StageSlots) (made : Lead) (a : Draft) → Leads design stages made a → EachPair (λ (f : File) (nets : FileNets). StandsFile f nets a) design.files made.files

@@ -1,7 +1,7 @@
 //! Laws of the definitions. They do nothing: their contracts are what they say.
 ghost use Rattle.ap_lead.specs.Idle.{GroupsAreOfUsed, IdlePortsHaveNone, NewNamesAreOff};
 ghost use Rattle.ap_lead.specs.Leading.{FilesAreInstances, LeadGivesFiles, LeadGivesRegs, LeadsFollow};
-ghost use Rattle.ap_lead.specs.Left.{KnownFilesNeed, LeadsLeaveRest};
+ghost use Rattle.ap_lead.specs.Left.{KnownFilesNeed, LeadFilesStand, LeadsLeaveRest};
 ghost use Rattle.ap_lead.specs.Seen.{LeadsAreSeen, LeadsBegin, RegsAreClocked};
 ghost use Rattle.ap_lead.specs.Storing.{FilesAreKnown};
 ghost use Rattle.ap_lead.specs.Writes.{FileWritesAreShown, RegWritesAreShown};
@@ -66,6 +66,12 @@ pub fn idle_ports_are_off()
 /// have one number, and the registers of the front take nothing yet.
 pub fn lead_leaves_rest()
     ensures { LeadsLeaveRest }
+{}
+
+/// There are an index and a value for each read port of each file, of its bits; the indices are driven later, and each value is ready once its
+/// index is.
+pub fn lead_files_stand()
+    ensures { LeadFilesStand }
 {}
 
 /// By the names of the modules that are built for a shelf, files depend as they do.
