@@ -1,3 +1,4 @@
 pub mod Started
 pub mod Tables
 pub mod Tops
+pub mod Whole

@@ -22,18 +22,14 @@ use ap_supply::supplies::supplies;
 /// The data of the stages, and over what they were made.
 #[derive(Drop)]
 pub struct Data {
-    /// With what each node of the description is served.
     pub supplies: Items<Supplied>,
-    /// The nets that all stages read.
     pub shared: SharedNets,
-    /// The nets of each stage, from 1 on.
     pub own: Vec<StageNets>,
     /// The stages from 1 on.
     pub stages: Vec<ServedStage>,
 }
 
-/// The data of all stages, from 1 on, over the first two parts: what was placed serves the nodes of the description, and each stage stands on
-/// its registers and on what control makes of its word. After an error the builder is good for nothing but to be dropped.
+/// The data of all stages, from 1 on.
 pub fn data_top(
     design: &Design,
     tables: &Tables,

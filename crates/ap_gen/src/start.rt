@@ -19,9 +19,7 @@ use ap_work::work::{Work, make_control};
 /// The first two parts of `top`.
 #[derive(Drop)]
 pub struct Start {
-    /// Ports, registers and files.
     pub lead: Lead,
-    /// Units of several cycles, and control.
     pub work: Work,
 }
 

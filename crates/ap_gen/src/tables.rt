@@ -14,11 +14,8 @@ use std::alloc::Global;
 /// from stage to stage.
 #[derive(Drop)]
 pub struct Tables {
-    /// Which port each line uses, and the orders of the stages' nodes.
     pub paths: PathTable,
-    /// What is selected for each operand of a port.
     pub merged: Merged,
-    /// The slots in which locals go from stage to stage.
     pub slots: SlotTable,
 }
 
