@@ -7,6 +7,8 @@ pub mod DataStaging
 pub mod ActCourses
 pub mod ActLate
 pub mod ActOutputs
+pub mod ActSpared
+pub mod ActTop
 pub mod RestingWrites
 pub mod Resting
 pub mod BuiltGrown
